@@ -2,6 +2,7 @@
 use Prim.Native.Nat.{ℕ, zero, suc, _+_, _*_, _≤_, _<_}
 use mathlib.Core.Path.{_≡_, refl, sym, ap, ap₂, _∙_}
 use mathlib.Core.Bool.{Bool, true, false, cond, _||_}
+use native.Mathlib.Numerals.{add-one}
 use native.Mathlib.Omega.{arith}
 use Rattle.std.specs.Orderings.{Decides}
 use Rattle.std.proofs.shelf.Ways.{decides-below-or}
@@ -10,6 +11,10 @@ use Rattle.marks.specs.Below.{someBelow, sumBelow, countBelow}
 pub some-decides : (p : ℕ → Bool) (P : ℕ → Type 0) → ((k : ℕ) → Decides (p k) (P k)) → (n : ℕ) → Decides (someBelow p n) ((k : ℕ) × (k < n) × P k)
 unfolding someBelow
 some-decides p P each n = decides-below-or p P (someBelow p) each refl (λ _. refl) n
+
+pub sum-more : (f : ℕ → ℕ) (n : ℕ) → sumBelow f (n + 1) ≡ sumBelow f n + f n
+unfolding sumBelow
+sum-more f n = ap (sumBelow f) (add-one n)
 
 pub sum-like : (f g : ℕ → ℕ) (n : ℕ) → ((i : ℕ) → i < n → f i ≡ g i) → sumBelow f n ≡ sumBelow g n
 unfolding sumBelow
@@ -36,6 +41,17 @@ sum-past f n (suc k) h =
     let z = h (n + k) (omega arith) in
     let ih = sum-past f n k h in
     ap (sumBelow f) e ∙ (let s : sumBelow f (n + k) + f (n + k) ≡ sumBelow f n = omega arith in s)
+
+-- a table that is the same across its diagonal, with nothing on it, is twice what lies below it
+pub square : (f : ℕ → ℕ → ℕ) → ((a b : ℕ) → f a b ≡ f b a) → ((a : ℕ) → f a a ≡ 0) → (n : ℕ) → sumBelow (λ a. sumBelow (f a) n) n ≡ 2 * sumBelow (λ a. sumBelow (f a) a) n
+unfolding sumBelow
+square f swap none zero = omega arith
+square f swap none (suc n) =
+    let e = square f swap none n in
+    let x = sum-add (λ a. sumBelow (f a) n) (λ a. f a n) n in
+    let y = sum-like (f n) (λ a. f a n) n (λ i _. swap n i) in
+    let z = none n in
+    omega arith
 
 pub count-like : (p q : ℕ → Bool) (n : ℕ) → ((i : ℕ) → i < n → p i ≡ q i) → countBelow p n ≡ countBelow q n
 count-like p q n h = sum-like (λ i. cond (p i) 1 0) (λ i. cond (q i) 1 0) n (λ i l. ap (λ (b : Bool). cond {A = ℕ} b 1 0) (h i l))

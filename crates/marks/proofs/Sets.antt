@@ -4,11 +4,11 @@ use mathlib.Core.Path.{_≡_, refl, sym, ap, _∙_}
 use mathlib.Core.Bool.{Bool, true, false, not, _&&_, _||_}
 use mathlib.Core.Logic.{_⊎_, inl, inr}
 use lib.Dec.{eqb}
-use Rattle.std.proofs.shelf.Tests.{cases-lt, cases-eq, ne-eqb}
+use Rattle.std.proofs.shelf.Tests.{cases-eq, ne-eqb}
 use Rattle.marks.specs.View.{marked, Fits}
 use Rattle.marks.specs.Sets.{collect, none}
 use Rattle.marks.specs.declared.Marks.{Marks}
-use Rattle.marks.proofs.Digits.{bit-past, bit-made, made-lt, same-digits}
+use Rattle.marks.proofs.Digits.{bit-zero, bit-past, bit-made, made-lt, same-digits}
 
 -- two sets with the same marks are equal
 pub same-marks : (a b : Marks) → Fits a → Fits b → ((j : ℕ) → j < 64 → marked a j ≡ marked b j) → a ≡ b
@@ -26,11 +26,7 @@ unfolding collect
 marked-collect p j l = bit-made p 64 j l
 
 pub marked-none : (j : ℕ) → marked none j ≡ false
-marked-none j = go (cases-lt j 64)
-  where
-    go : (j < 64) ⊎ (64 ≤ j) → marked none j ≡ false
-    go (inl l) = marked-collect (λ _. false) j l
-    go (inr l) = marked-past none j (fits-collect (λ _. false)) l
+marked-none j = bit-zero j
 
 -- a set whose marks are the numbers that pass
 pub is-collect : (m : Marks) (p : ℕ → Bool) → Fits m → ((j : ℕ) → j < 64 → marked m j ≡ p j) → m ≡ collect p

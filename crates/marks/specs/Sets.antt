@@ -10,12 +10,13 @@ use Rattle.marks.specs.Below.{sumBelow}
 use Rattle.marks.specs.View.{marked}
 use Rattle.marks.specs.declared.Marks.{Marks}
 
+-- the set without a mark
+abbrev pub none : Marks
+none = record { bits = 0 }
+
 -- the set of the numbers below 64 that pass
 unfoldable pub collect : (ℕ → Bool) → Marks
 collect p = record { bits = sumBelow (λ i. cond (p i) (2 ^ i) 0) 64 }
-
-abbrev pub none : Marks
-none = collect (λ _. false)
 
 -- and mark i too
 abbrev pub added : Marks → ℕ → Marks

@@ -1,0 +1,4 @@
+pub mod Contends
+pub mod Counts
+pub mod Near
+pub mod Rows
