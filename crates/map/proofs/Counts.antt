@@ -47,3 +47,6 @@ module _ (m : Map) where
 
   pub degree-le : (n : ℕ) → degree m n ≤ 64
   degree-le n = let l = count-le (linked m n) (nodes m) in let k = m .most in omega arith
+
+  pub rivals-le : (n : ℕ) → rivals m n ≤ 64
+  rivals-le n = let l = count-le (contend m n) (nodes m) in let k = m .most in omega arith

@@ -1,21 +1,36 @@
 -- The front of a job: what its first records make, record by record.
-use Prim.Native.Nat.{ℕ, zero, suc, _+_, _-_, _*_, _≤_, _<_}
+use Prim.Native.Nat.{ℕ, zero, suc, _+_, _-_, _*_, _%_, _≤_, _<_}
 use mathlib.Core.Path.{_≡_, refl, sym, ap, ap₂, _∙_, fun-ext}
 use mathlib.Core.Bool.{Bool, true, false, cond, _&&_, _||_}
 use mathlib.Core.List.{List}
 use mathlib.Core.Logic.{_⊎_, inl, inr}
 use native.Mathlib.Omega.{arith}
-use lib.Dec.{eqb, ltb}
+use lib.Dec.{eqb, ltb, leb}
 use lib.ListN.{length, getD, take, drop, length-take}
 use lib.Seq.{getD-take, getD-drop}
 use Rattle.std.specs.declared.option.Option.{Option}
 use Rattle.std.specs.declared.option.Option.the-variants.{Some, None}
-use Rattle.std.proofs.shelf.Tests.{ltb-true, ltb-false, lt-ltb, le-ltb, ne-eqb, cases-bool, cases-eq}
+use Rattle.std.proofs.shelf.Tests.{leb-true, ltb-true, ltb-false, lt-ltb, le-ltb, ne-eqb, cases-bool, cases-eq}
+use Rattle.std.specs.declared.result.Result.{Result}
+use Rattle.std.specs.declared.result.Result.the-variants.{Ok, Err}
 use Rattle.marks.specs.Below.{someBelow}
+use Rattle.refusal.specs.declared.Refusal.{Refusal}
+use Rattle.refusal.specs.declared.Refusal.the-variants.{Count, Torn}
 use Rattle.map.specs.View.{Net}
 use Rattle.map.specs.Calls.{bare, linkedUp}
-use Rattle.records.specs.Fields.{records, recordAt, handed, taken, numberOf}
+use Rattle.records.specs.Fields.{lengthRule, records, recordAt, handed, taken, numberOf}
 use Rattle.records.specs.Build.{opens, joins, byte, countIn, good, names, front, described, FirstBad, AllGood}
+
+-- a job that is not too long
+pub length-ok : (n : ℕ) → lengthRule n ≡ Ok tt → n ≤ 32768
+length-ok n e = go (cases-bool (leb n 32768))
+  where
+    go : (leb n 32768 ≡ true) ⊎ (leb n 32768 ≡ false) → n ≤ 32768
+    go (inl t) = leb-true n 32768 t
+    go (inr f) =
+        let d : _≡_ {A = Result (Unit {0}) Refusal} (Err Count) (Ok tt) = sym (ap (λ (b : Bool). cond b (cond (eqb (n % 8) 0) (Ok tt) (Err Torn)) (Err Count)) f) ∙ e in
+        let z : _≡_ {A = ℕ} 0 1 = cc in
+        absurd (omega arith)
 
 -- where a reader over the bytes j of a job stands after some records, all good, with the map of those
 pub record Reached (job j : List ℕ) (place : ℕ) (n : Net) : Type 0 where
@@ -121,7 +136,7 @@ module _ (job j xs : List ℕ) (p q : ℕ) (same : j ≡ job) (value : Some xs �
         ap (λ (x : Net). joins (x .size) (taken xs)) (at .made) ∙ ap (λ (b : List ℕ). joins (countIn job) (taken b)) (was .1)
         ∙ sym (good-link job p (at .past))
 
-    pub next-good : (k : List ℕ) (m : Net) → k ≡ j → joins (n .size) (taken xs) ≡ true → m ≡ linkedUp n (getD xs 1 0) (getD xs 2 0) → Reached job k q m
+    pub next-good : (k : List ℕ) (m : Net) → k ≡ j → true ≡ joins (n .size) (taken xs) → m ≡ linkedUp n (getD xs 1 0) (getD xs 2 0) → Reached job k q m
     next-good k m s t e =
         let v = moved in
         let w = was .0 in
@@ -140,14 +155,14 @@ module _ (job j xs : List ℕ) (p q : ℕ) (same : j ≡ job) (value : Some xs �
         }
       where
         go : (i : ℕ) → i < q → (i ≡ p) ⊎ (i ≡ p → ⊥) → good job i ≡ true
-        go i l (inl d) = ap (good job) d ∙ sym good-next ∙ t
+        go i l (inl d) = ap (good job) d ∙ sym (t ∙ good-next)
         go i l (inr d) = let v = moved in at .each i (omega arith)
 
-    pub next-bad : (r : ℕ) → joins (n .size) (taken xs) ≡ false → r ≡ q - 1 → FirstBad job r
+    pub next-bad : (r : ℕ) → false ≡ joins (n .size) (taken xs) → r ≡ q - 1 → FirstBad job r
     next-bad r f e =
         let b = back r e in
         let w = was .0 in
-        record { before = λ i l. at .each i (omega arith); bad = ap (good job) (sym b) ∙ sym good-next ∙ f; there = inl (omega arith) }
+        record { before = λ i l. at .each i (omega arith); bad = ap (good job) (sym b) ∙ sym (f ∙ good-next); there = inl (omega arith) }
 
 -- a job without a record
 pub no-record : (job j : List ℕ) (p q r : ℕ) → j ≡ job → p ≡ 0 → None ≡ handed j p → q ≡ cond (ltb p (records j)) (p + 1) p → r ≡ q - 1 → FirstBad job r

@@ -32,7 +32,7 @@ returns-then-not-joined c =
       sym (c .in-Continue-check-length .ensures tt),
       next-bad (c .args .job .now) (c .loop-record .reader .job .now) (c .in-Some-next .record .now) (c .loop-record .reader .place) (c .next-in-loop-record .last .self .place)
           (c .loop-record .inv .same) (k .value) (k .place) (net (c .loop-record .map)) (c .loop-record .inv) (c .index-then-not-joined .result)
-          (sym (c .if-not-joined .ensures tt .answer)) (c .index-then-not-joined .ensures),
+          (c .if-not-joined .ensures tt .answer) (c .index-then-not-joined .ensures),
     )
 
 pub loop-record-again : need.loop-record-again
@@ -40,7 +40,7 @@ loop-record-again c =
     let k = c .in-Some-next .ensures tt in
     next-good (c .args .job .now) (c .loop-record .reader .job .now) (c .in-Some-next .record .now) (c .loop-record .reader .place) (c .next-in-loop-record .last .self .place)
     (c .loop-record .inv .same) (k .value) (k .place) (net (c .loop-record .map)) (c .loop-record .inv) (c .next-in-loop-record .last .self .job .now) (net (c .joined .last .map))
-    (k .job) (sym (c .if-not-joined .ensures tt .answer)) (c .if-not-joined .ensures tt .after)
+    (k .job) (c .if-not-joined .ensures tt .answer) (c .if-not-joined .ensures tt .after)
 
 pub returns : need.returns
 returns c =
