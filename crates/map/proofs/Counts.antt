@@ -35,6 +35,10 @@ module _ (m : Map) where
       go (inl t) = absurd (let k = m .within b a (m .both b a ∙ t) in let f : ⊥ = omega arith in f)
       go (inr f) = f
 
+  -- no node past the count is linked
+  pub linked-off : (a b : ℕ) → nodes m ≤ a → linked m a b ≡ false
+  linked-off a b l = m .both a b ∙ linked-past b a l
+
   pub size-neighbours : (n : ℕ) (s : Marks) → ((b : ℕ) → marked s b ≡ linked m n b) → size s ≡ degree m n
   size-neighbours n s same = size-below s (linked m n) (nodes m) (m .most) same (linked-past n)
 

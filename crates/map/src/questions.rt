@@ -2,8 +2,8 @@
 ghost use Prim.Native.Nat.{ℕ};
 ghost use mathlib.Core.Path.{_≡_};
 ghost use Rattle.std.specs.Orderings.{Decides};
-ghost use Rattle.marks.specs.View.{marked};
-ghost use Rattle.map.specs.View.{Contend, degree, linkCount, linked, nodes};
+ghost use Rattle.marks.specs.View.{marked, size};
+ghost use Rattle.map.specs.View.{Contend, degree, linkCount, linked, nodes, rivals};
 use crate::Map;
 use marks::Marks;
 
@@ -17,7 +17,8 @@ impl Map {
 
     /// The nodes linked to `n`; none if `n` is no node of the map.
     pub fn neighbours(&self, n: u8) -> Marks
-        ensures { λ r. ⌜ ((b : ℕ) → marked r b ≡ linked (now (self .entry)) n b) ⌝ }
+        ensures marks { λ r. ⌜ ((b : ℕ) → marked r b ≡ linked (now (self .entry)) n b) ⌝ }
+        ensures len { λ r. ⌜ size r ≡ degree (now (self .entry)) n ⌝ }
     {
         if n < self.count {
             self.rows[n as usize]
@@ -43,6 +44,7 @@ impl Map {
     /// The contenders of `n`: the nodes other than `n` that are neighbours of `n` or of one.
     pub fn contenders(&self, n: u8) -> Marks
         ensures marks { λ r. ⌜ ((b : ℕ) → Decides (marked r b) (Contend (now (self .entry)) n b)) ⌝ }
+        ensures len { λ r. ⌜ size r ≡ rivals (now (self .entry)) n ⌝ }
         ensures swaps { λ r. ⌜ ((a b : ℕ) → Contend (now (self .entry)) a b → Contend (now (self .entry)) b a) ⌝ }
         ensures apart { λ r. ⌜ ((a : ℕ) → Contend (now (self .entry)) a a → ⊥) ⌝ }
     {

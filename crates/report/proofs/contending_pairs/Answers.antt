@@ -5,7 +5,7 @@ use Rattle.marks.specs.Below.{sumBelow}
 use Rattle.marks.proofs.Below.{sum-more}
 use Rattle.map.specs.View.{nodes, contend, rivals}
 use Rattle.map.proofs.Contends.{contend-mutual, contend-apart}
-use Rattle.map.proofs.Counts.{handshake, rivals-le, size-contenders}
+use Rattle.map.proofs.Counts.{handshake, rivals-le}
 use Rattle.report.proofs.contending_pairs.Needs as need
 
 pub add-ends : need.add-ends
@@ -21,7 +21,7 @@ loop-n-again c =
     let s = sum-more (rivals m) (c .loop-n .n) in
     let k = rivals-le m (c .loop-n .n) in
     let i = c .loop-n .inv in
-    let e : c .from-ends .result ≡ rivals m (c .loop-n .n) = c .from-ends .ensures ∙ c .len .ensures ∙ size-contenders m (c .loop-n .n) (c .contenders .result) (c .contenders .ensures .marks) in
+    let e : c .from-ends .result ≡ rivals m (c .loop-n .n) = c .from-ends .ensures ∙ c .len .ensures ∙ c .contenders .ensures .len in
     (omega arith, omega arith)
 
 pub returns : need.returns
