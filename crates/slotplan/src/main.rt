@@ -8,6 +8,8 @@ use std::io::Write;
 fn main(rt: LibcRuntime) -> io::Result<()> {
     let mut job = Vec::new(rt.alloc());
     // One byte more than a job can have is enough to tell that it has too many.
-    rt.stdin().take(MOST_BYTES as u64 + 1).read_to_end(&mut job)?;
+    rt.stdin()
+        .take(MOST_BYTES as u64 + 1)
+        .read_to_end(&mut job)?;
     rt.stdout().write_all(report(job.as_slice()).as_bytes())
 }
