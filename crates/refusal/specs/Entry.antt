@@ -1,7 +1,9 @@
 -- The refusals of the kit: the number and the word of each, and the index that a bad record brings.
 use Prim.Native.Nat.{ℕ}
 use mathlib.Core.List.{List}
+use mathlib.Core.Bool.{true, false}
 use lib.Chars.{codes}
+use lib.Dec.{eqb}
 use Rattle.std.specs.declared.option.Option.{Option}
 use Rattle.std.specs.declared.option.Option.the-variants.{Some, None}
 use Rattle.refusal.specs.declared.Refusal.{Refusal}
@@ -31,3 +33,7 @@ entry Quiet = plain 11 (codes "quiet")
 entry Foreign = plain 12 (codes "foreign")
 entry Torn = plain 13 (codes "torn")
 entry (Record i) = record { number = 14; word = codes "record"; index = Some i }
+
+-- why a call refuses, by the refusal's number: the reason at that number, and what is said otherwise at any other
+abbrev pub why : ℕ → ℕ → Type 0 → Type 0 → Type 0
+why number at reason otherwise = elim (eqb number at) [ true ↦ reason | false ↦ otherwise ]

@@ -1,0 +1,4 @@
+pub mod Accept
+pub mod Rand
+pub mod Slots
+pub mod Table

@@ -1,0 +1,4 @@
+pub mod Laws
+pub mod Rand
+pub mod Order
+pub mod Sharing
