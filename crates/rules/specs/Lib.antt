@@ -1,0 +1,4 @@
+pub mod Pairs
+pub mod Close
+pub mod Node
+pub mod Link
