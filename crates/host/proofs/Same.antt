@@ -1,15 +1,15 @@
 -- Tables that agree on the items get the same answer.
 use Prim.Native.Nat.{ℕ, _+_, _≤_, _<_}
 use mathlib.Core.Path.{_≡_, sym, subst, _∙_}
-use mathlib.Core.Bool.{Bool, true, false}
+use mathlib.Core.Bool.{Bool}
 use mathlib.Core.List.{List}
 use mathlib.Core.Logic.{_⊎_, inl, inr}
 use native.Mathlib.Omega.{arith}
-use lib.Dec.{eqb}
 use lib.ListN.{length, getD}
 use Rattle.std.specs.declared.result.Result.{Result}
 use Rattle.std.specs.declared.result.Result.the-variants.{Ok, Err}
-use Rattle.refusal.specs.Entry.{entry, why}
+use Rattle.refusal.proofs.Why.{why-cases}
+use Rattle.refusal.specs.Entry.{entry}
 use Rattle.refusal.specs.declared.Refusal.{Refusal}
 use Rattle.schedule.specs.Sharing.{Shares, Alone, Largest, Checked}
 use Rattle.schedule.specs.declared.checking.Verdict.{Verdict}
@@ -40,14 +40,6 @@ module _ (clash : ℕ → ℕ → Bool) (n : ℕ) (w s : List ℕ) (same : (k : 
       go (inl e) = inl e
       go (inr (k, h, e)) = inr (k, h, sym (same k h) ∙ e)
 
-  -- a table that is long enough is not refused
-  not-short : (number : ℕ) → n ≤ length w → why number 1 (length w < n) ⊥ → ⊥
-  not-short number l h = go (eqb number 1) h
-    where
-      go : (b : Bool) → elim b as (λ _. Type 0) [ true ↦ length w < n | false ↦ ⊥ ] → ⊥
-      go true q = omega arith
-      go false q = q
-
   pub checked-on : (r : Result Verdict Refusal) → n ≤ length w → n ≤ length s → Checked clash n w r → Checked clash n s r
   checked-on (Ok (Accepted m)) lw ls (h, (clear, largest)) = (ls, ((λ x y lx ly p. clear x y lx ly (shares-back x y lx ly p)), largest-on m largest))
   checked-on (Ok (Clash pair)) lw ls (h, p) =
@@ -58,4 +50,4 @@ module _ (clash : ℕ → ℕ → Bool) (n : ℕ) (w s : List ℕ) (same : (k : 
         first = λ x l. let a = p .after in let b = p .inside in alone-on x n (omega arith) (omega arith) (p .first x l);
         second = let a = p .after in let b = p .inside in alone-on (pair .0) (pair .1) (omega arith) (omega arith) (p .second);
       })
-  checked-on (Err e) lw ls h = absurd (not-short (entry e .number) lw h)
+  checked-on (Err e) lw ls h = absurd (elim (why-cases (entry e .number) 1 (length w < n) ⊥ h) [ inl q ↦ omega arith | inr q ↦ q ])

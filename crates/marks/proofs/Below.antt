@@ -1,12 +1,14 @@
 -- Laws of the numbers below a bound.
-use Prim.Native.Nat.{ℕ, zero, suc, _+_, _*_, _≤_, _<_}
+use Prim.Native.Nat.{ℕ, zero, suc, _+_, _*_, _≤_, _<_, max}
 use mathlib.Core.Path.{_≡_, refl, sym, ap, ap₂, _∙_}
 use mathlib.Core.Bool.{Bool, true, false, cond, _||_}
+use mathlib.Core.Logic.{_⊎_, inl, inr}
 use native.Mathlib.Numerals.{add-one}
 use native.Mathlib.Omega.{arith}
 use Rattle.std.specs.Orderings.{Decides}
+use Rattle.std.proofs.shelf.Tests.{cases-eq}
 use Rattle.std.proofs.shelf.Ways.{decides-below-or}
-use Rattle.marks.specs.Below.{someBelow, sumBelow, countBelow}
+use Rattle.marks.specs.Below.{someBelow, sumBelow, countBelow, maxBelow}
 
 pub some-decides : (p : ℕ → Bool) (P : ℕ → Type 0) → ((k : ℕ) → Decides (p k) (P k)) → (n : ℕ) → Decides (someBelow p n) ((k : ℕ) × (k < n) × P k)
 unfolding someBelow
@@ -62,3 +64,24 @@ one-at-most false = omega arith
 
 pub count-le : (p : ℕ → Bool) (n : ℕ) → countBelow p n ≤ n
 count-le p n = let l = sum-le (λ i. cond (p i) 1 0) 1 n (λ i _. one-at-most (p i)) in omega arith
+
+-- ---- the largest
+
+pub max-like : (f g : ℕ → ℕ) (n : ℕ) → ((i : ℕ) → i < n → f i ≡ g i) → maxBelow f n ≡ maxBelow g n
+unfolding maxBelow
+max-like f g zero h = refl
+max-like f g (suc n) h = ap₂ (λ (x y : ℕ). max x y) (max-like f g n (λ i l. h i (omega arith))) (h n (omega arith))
+
+pub max-above : (f : ℕ → ℕ) (n i : ℕ) → i < n → f i ≤ maxBelow f n
+unfolding maxBelow
+max-above f zero i l = absurd (let z : ⊥ = omega arith in z)
+max-above f (suc n) i l = go (cases-eq i n) (λ q. max-above f n i q)
+  where
+    go : (i ≡ n) ⊎ (i ≡ n → ⊥) → (i < n → f i ≤ maxBelow f n) → f i ≤ max (maxBelow f n) (f n)
+    go (inl e) ih = let d = ap f e in omega arith
+    go (inr d) ih = let q = ih (omega arith) in omega arith
+
+pub max-le : (f : ℕ → ℕ) (n m : ℕ) → ((i : ℕ) → i < n → f i ≤ m) → maxBelow f n ≤ m
+unfolding maxBelow
+max-le f zero m h = omega arith
+max-le f (suc n) m h = let l = max-le f n m (λ i q. h i (omega arith)) in let k = h n (omega arith) in omega arith

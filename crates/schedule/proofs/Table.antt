@@ -10,7 +10,14 @@ use lib.Seq.{getD-set-same, getD-set-other}
 use Rattle.std.proofs.shelf.Lists.{take-more}
 use Rattle.std.proofs.shelf.Tests.{cases-eq}
 use Rattle.schedule.specs.Rand.{least, rand, Fine, Named, Held, Smallest, IsRand}
-use Rattle.schedule.specs.Order.{entries}
+use Rattle.std.specs.declared.result.Result.{Result}
+use Rattle.std.specs.declared.result.Result.the-variants.{Ok, Err}
+use Rattle.refusal.specs.Entry.{entry, why}
+use Rattle.refusal.specs.declared.Refusal.{Refusal}
+use Rattle.refusal.proofs.Why.{why-cases}
+use Rattle.schedule.specs.declared.checking.Verdict.the-variants.{Accepted}
+use Rattle.schedule.specs.Order.{entries, NoItem, NamedTwice, Disordered, Planned, Sound}
+use Rattle.schedule.specs.Sharing.{Checked}
 use Rattle.schedule.proofs.Slots.{least-like}
 use Rattle.schedule.proofs.Rand.{rand-push-same, rand-push-other, rand-is}
 
@@ -46,3 +53,21 @@ module _ (clash : ℕ → ℕ → Bool) (n : ℕ) (order slots : List ℕ) where
                   (j, lj, c, e (getD order j 0) (fine j (omega arith) .0) ∙ d);
             };
       }
+
+-- ---- an order that is fine, and a table that is long enough, are not refused
+
+module _ (clash : ℕ → ℕ → Bool) (n : ℕ) (order before after : List ℕ) (long : n ≤ length before) (fine : Fine n order) where
+  well-ordered : (number : ℕ) → Disordered n order number → ⊥
+  well-ordered number h = elim (why-cases number 3 (NoItem n order) (why number 5 (NamedTwice n order) ⊥) h) [
+    | inl (i, l, _, q) ↦ let f = fine i l .0 in omega arith
+    | inr k ↦ elim (why-cases number 5 (NamedTwice n order) ⊥ k) [ inl (i, l, _, _, r) ↦ fine i l .1 r | inr z ↦ z ]
+  ]
+
+  pub planned-fine : (r : Result (Unit {0}) Refusal) → Planned clash n order before after r → Sound clash n order after r
+      → ((k : ℕ) → k < n → getD after k 0 ≡ rand clash n order k) × ((m : ℕ) × Checked clash n after (Ok (Accepted m)))
+  planned-fine (Ok _) p s = (p .2, s .1)
+  planned-fine (Err e) p s =
+      absurd (elim (why-cases (entry e .number) 1 (length before < n) ((n ≤ length before) × Disordered n order (entry e .number)) (p .1)) [
+        | inl q ↦ omega arith
+        | inr q ↦ well-ordered (entry e .number) (q .1)
+      ])

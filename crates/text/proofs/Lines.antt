@@ -14,7 +14,7 @@ use Rattle.std.proofs.shelf.Decimals.{decimal-digit, decimal-step, length-decim
 use Rattle.std.proofs.shelf.Lists.{take-more, joined-more}
 use Rattle.refusal.specs.declared.Refusal.{Refusal}
 use Rattle.refusal.specs.Entry.{entry}
-use Rattle.text.specs.Written.{clip, lineEnd, refusedLine}
+use Rattle.text.specs.Written.{clip, spaced, lineEnd, refusedLine}
 use Rattle.text.proofs.Clip.{and-then}
 
 pub digit-last : (s t u : List ℕ) (n : ℕ) → 10 ≤ n → n < 2 ^ 64 → t ≡ clip (s ++ decimal (n / 10)) → u ≡ clip (t ++ ((48 + n % 10) ∷ [])) → u ≡ clip (s ++ decimal n)
@@ -25,10 +25,6 @@ digit-only s u n h q = let e : n % 10 ≡ n = omega arith in rw (decimal-digit n
 
 pub byte-more : (s t u w : List ℕ) (i : ℕ) → i < length w → t ≡ clip (s ++ take i w) → u ≡ clip (t ++ (getD w i 0 ∷ [])) → u ≡ clip (s ++ take (i + 1) w)
 byte-more s t u w i l p q = and-then s t u (take i w) (getD w i 0 ∷ []) p q ∙ ap (λ (x : List ℕ). clip (s ++ x)) (sym (take-more w i 0 l))
-
--- each number after one space
-abbrev pub spaced : List ℕ → List ℕ
-spaced = joined (λ n. 32 ∷ decimal n)
 
 pub number-more : (s t u v ns : List ℕ) (i : ℕ) → i < length ns → t ≡ clip (s ++ spaced (take i ns)) → u ≡ clip (t ++ (32 ∷ [])) → v ≡ clip (u ++ decimal (getD ns i 0)) → v ≡ clip (s ++ spaced (take (i + 1) ns))
 number-more s t u v ns i l p q r =
@@ -44,15 +40,15 @@ refused-line s t u e n o p q a b =
 -- ---- how long a line is
 
 -- numbers of at most k digits
+pub spaced-short : (k : ℕ) (ns : List ℕ) → 0 < k → 10 ^ k ≤ 2 ^ 64 → ((i : ℕ) → i < length ns → getD ns i 0 < 10 ^ k) → length (spaced ns) ≤ (k + 1) * length ns
+spaced-short k [] p w h = omega arith
+spaced-short k (n ∷ ns) p w h =
+    let a = h 0 (omega arith) in
+    let d = length-decimal-le k n p a (omega arith) in
+    let l = spaced-short k ns p w (λ i q. h (suc i) (omega arith)) in
+    let e = length-append (32 ∷ decimal n) (spaced ns) in
+    let m : (k + 1) * suc (length ns) ≡ (k + 1) * length ns + (k + 1) = mul-suc (k + 1) (length ns) in
+    omega arith
+
 pub lineEnd-short : (k : ℕ) (ns : List ℕ) → 0 < k → 10 ^ k ≤ 2 ^ 64 → ((i : ℕ) → i < length ns → getD ns i 0 < 10 ^ k) → length (lineEnd ns) ≤ (k + 1) * length ns + 1
-lineEnd-short k ns p w h = let l = go ns h in simp length-append (omega arith)
-  where
-    go : (ns : List ℕ) → ((i : ℕ) → i < length ns → getD ns i 0 < 10 ^ k) → length (spaced ns) ≤ (k + 1) * length ns
-    go [] h = omega arith
-    go (n ∷ ns) h =
-        let a = h 0 (omega arith) in
-        let d = length-decimal-le k n p a (omega arith) in
-        let l = go ns (λ i q. h (suc i) (omega arith)) in
-        let e = length-append (32 ∷ decimal n) (spaced ns) in
-        let m : (k + 1) * suc (length ns) ≡ (k + 1) * length ns + (k + 1) = mul-suc (k + 1) (length ns) in
-        omega arith
+lineEnd-short k ns p w h = let l = spaced-short k ns p w h in let e = length-append (spaced ns) (10 ∷ []) in omega arith

@@ -18,9 +18,13 @@ written t = take (t .len) (t .bytes)
 abbrev pub clip : List ℕ → List ℕ
 clip bytes = take 1024 bytes
 
--- the rest of a line: each number after one space (32), then a line feed (10)
+-- each number after one space (32)
+abbrev pub spaced : List ℕ → List ℕ
+spaced numbers = joined (λ n. 32 ∷ decimal n) numbers
+
+-- the rest of a line: the numbers, then a line feed (10)
 abbrev pub lineEnd : List ℕ → List ℕ
-lineEnd numbers = joined (λ n. 32 ∷ decimal n) numbers ++ (10 ∷ [])
+lineEnd numbers = spaced numbers ++ (10 ∷ [])
 
 -- the line of a refusal: its number and, where it has one, its index
 abbrev pub refusedLine : Refusal → List ℕ

@@ -2,7 +2,7 @@
 ghost use mathlib.Core.List.{[], _∷_, _++_};
 ghost use mathlib.Core.Path.{_≡_};
 ghost use Rattle.std.specs.Written.{decimal};
-ghost use Rattle.text.specs.Written.{clip, lineEnd, refusedLine, written};
+ghost use Rattle.text.specs.Written.{clip, lineEnd, refusedLine, spaced, written};
 use crate::Text;
 use refusal::Refusal;
 
@@ -57,14 +57,21 @@ impl Text {
         self.push(b'0' + (n % 10) as u8);
     }
 
-    /// Ends a line: each number after one space, then a line feed.
-    pub fn end_line(&mut self, numbers: &[usize])
-        ensures { λ _. ⌜ written (now (self .exit)) ≡ clip (written (now (self .entry)) ++ lineEnd (now (numbers .entry))) ⌝ }
+    /// Writes each number after one space.
+    pub fn push_numbers(&mut self, numbers: &[usize])
+        ensures { λ _. ⌜ written (now (self .exit)) ≡ clip (written (now (self .entry)) ++ spaced (now (numbers .entry))) ⌝ }
     {
         for n in numbers {
             self.push(b' ');
             self.push_number(*n);
         }
+    }
+
+    /// Ends a line: each number after one space, then a line feed.
+    pub fn end_line(&mut self, numbers: &[usize])
+        ensures { λ _. ⌜ written (now (self .exit)) ≡ clip (written (now (self .entry)) ++ lineEnd (now (numbers .entry))) ⌝ }
+    {
+        self.push_numbers(numbers);
         self.push(b'\n');
     }
 

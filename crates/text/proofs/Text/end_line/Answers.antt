@@ -1,25 +1,9 @@
-use Prim.Native.Nat.{ℕ}
-use mathlib.Core.Path.{_≡_, ap, _∙_}
-use mathlib.Core.List.{List, [], _∷_, _++_}
-use native.Mathlib.Omega.{arith}
-use lib.ListN.{length-take}
-use lib.Seq.{take-all}
-use Rattle.text.specs.Written.{written, clip}
-use Rattle.text.proofs.Clip.{none-yet, and-then}
-use Rattle.text.proofs.Lines.{number-more, spaced}
+use mathlib.Core.List.{[], _∷_}
+use Rattle.text.specs.Written.{written, spaced}
+use Rattle.text.proofs.Clip.{and-then}
 use Rattle.text.proofs.Text.end_line.Needs as need
-
-pub loop-n-holds : need.loop-n-holds
-loop-n-holds c = none-yet (written (c .args .self .now)) (simp length-take (omega arith))
-
-pub loop-n-again : need.loop-n-again
-loop-n-again c =
-    number-more (written (c .args .self .now)) (written (c .loop-n .self)) (written (c .push .last .self)) (written (c .push-number .last .self)) (c .args .numbers .now) (c .loop-n .n-index)
-    (c .loop-n-test .taken) (c .loop-n .inv) (c .push .ensures) (c .push-number .ensures)
 
 pub returns : need.returns
 returns c =
-    let s = written (c .args .self .now) in
-    and-then s (written (c .loop-n .self)) (written (c .push-2 .last .self)) (spaced (c .args .numbers .now)) (10 ∷ [])
-    (c .loop-n .inv ∙ ap (λ (ns : List ℕ). clip (s ++ spaced ns)) (take-all (c .loop-n .n-index) (c .args .numbers .now) (c .loop-n-test .left)))
-    (c .push-2 .ensures)
+    and-then (written (c .args .self .now)) (written (c .push-numbers .last .self)) (written (c .push .last .self)) (spaced (c .args .numbers .now)) (10 ∷ [])
+    (c .push-numbers .ensures) (c .push .ensures)
