@@ -1,4 +1,4 @@
-//! Tests of the lowest layers at their edges: counts of nodes, links, contenders, lengths of jobs,
-//! bad records and reports.
+//! Tests at the edges of the lowest layers: counts of nodes, links, contenders, lengths of jobs, bad
+//! records and reports.
 #[cfg(test)]
 mod tests;

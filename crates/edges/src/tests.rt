@@ -213,7 +213,7 @@ fn reports() -> Result<(), Fail> {
     let path = b"N\x03\0\0\0\0\0\0L\0\x01\0\0\0\0\0L\x01\x02\0\0\0\0\0";
     check_eq(
         report(path).as_bytes(),
-        b"0 1 2\n1 2 2\n2 1 2\ntotal 3 2 3\n",
+        b"0 1 2 1\n1 2 2 2\n2 1 2 3\ntotal 3 2 3 3 accepted\n",
     )?;
     check_eq(report(b"").as_bytes(), b"refused 14 0\n")?;
     check_eq(report(b"N\x03").as_bytes(), b"refused 13\n")?;

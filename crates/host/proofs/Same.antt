@@ -42,12 +42,14 @@ module _ (clash : ℕ → ℕ → Bool) (n : ℕ) (w s : List ℕ) (same : (k : 
 
   pub checked-on : (r : Result Verdict Refusal) → n ≤ length w → n ≤ length s → Checked clash n w r → Checked clash n s r
   checked-on (Ok (Accepted m)) lw ls (h, (clear, largest)) = (ls, ((λ x y lx ly p. clear x y lx ly (shares-back x y lx ly p)), largest-on m largest))
-  checked-on (Ok (Clash pair)) lw ls (h, p) =
-      (ls, record {
-        after = p .after;
-        inside = p .inside;
-        shares = let a = p .after in let b = p .inside in shares-on (pair .0) (pair .1) (omega arith) (p .inside) (p .shares);
-        first = λ x l. let a = p .after in let b = p .inside in alone-on x n (omega arith) (omega arith) (p .first x l);
-        second = let a = p .after in let b = p .inside in alone-on (pair .0) (pair .1) (omega arith) (omega arith) (p .second);
-      })
+  checked-on (Ok (Clash pair)) lw ls (h, p) = (
+    ls,
+    record {
+      after = p .after;
+      inside = p .inside;
+      shares = let a = p .after in let b = p .inside in shares-on (pair .0) (pair .1) (omega arith) (p .inside) (p .shares);
+      first = λ x l. let a = p .after in let b = p .inside in alone-on x n (omega arith) (omega arith) (p .first x l);
+      second = let a = p .after in let b = p .inside in alone-on (pair .0) (pair .1) (omega arith) (omega arith) (p .second);
+    },
+  )
   checked-on (Err e) lw ls h = absurd (elim (why-cases (entry e .number) 1 (length w < n) ⊥ h) [ inl q ↦ omega arith | inr q ↦ q ])

@@ -1,5 +1,5 @@
 -- What the checker accepts: a table in which no item shares with a later one, and RAND's own.
-use Prim.Native.Nat.{ℕ, zero, suc, _+_, _≤_, _<_, max}
+use Prim.Native.Nat.{ℕ, zero, suc, _+_, _≤_, _<_}
 use mathlib.Core.Path.{_≡_, sym, ap, subst, _∙_}
 use mathlib.Core.Bool.{Bool, true, false}
 use mathlib.Core.List.{List}
@@ -7,8 +7,15 @@ use mathlib.Core.Logic.{_⊎_, inl, inr}
 use native.Mathlib.Omega.{arith}
 use lib.ListN.{length, getD}
 use Rattle.std.proofs.shelf.Tests.{both-ways, cases-order, cases-lt}
-use Rattle.std.specs.declared.result.Result.the-variants.{Ok}
-use Rattle.schedule.specs.declared.checking.Verdict.the-variants.{Accepted}
+use Rattle.std.specs.declared.result.Result.{Result}
+use Rattle.std.specs.declared.result.Result.the-variants.{Ok, Err}
+use Rattle.marks.specs.Below.{maxBelow}
+use Rattle.marks.proofs.Below.{max-above, max-le}
+use Rattle.refusal.specs.Entry.{entry}
+use Rattle.refusal.specs.declared.Refusal.{Refusal}
+use Rattle.refusal.proofs.Why.{why-cases}
+use Rattle.schedule.specs.declared.checking.Verdict.{Verdict}
+use Rattle.schedule.specs.declared.checking.Verdict.the-variants.{Accepted, Clash}
 use Rattle.schedule.specs.Rand.{IsRand}
 use Rattle.schedule.specs.Order.{entries}
 use Rattle.schedule.specs.Sharing.{Shares, Alone, Clear, Largest, Checked}
@@ -62,3 +69,20 @@ pub rand-accepted : (clash : ℕ → ℕ → Bool) (n : ℕ) → ((a b : ℕ) �
 rand-accepted clash n swap apart order slots long is =
     let (m, l) = some-largest n slots in
     (m, (long, ((λ x y lx ly s. rand-clean clash n order (entries slots) is swap apart x y lx ly (s .clashing) (s .placed) (sym (s .same))), l)))
+
+-- the largest slot is the maximum
+pub largest-is : (n : ℕ) (slots : List ℕ) (v : ℕ) → Largest n slots v → v ≡ maxBelow (entries slots) n
+largest-is n slots v l = let a = max-le (entries slots) n v (l .above) in let b = go (l .there) in omega arith
+  where
+    go : (v ≡ 0) ⊎ ((k : ℕ) × (k < n) × (getD slots k 0 ≡ v)) → v ≤ maxBelow (entries slots) n
+    go (inl e) = omega arith
+    go (inr (k, h, e)) = let m = max-above (entries slots) n k h in omega arith
+
+-- a table that is accepted has no other answer
+pub checked-only : (clash : ℕ → ℕ → Bool) (n : ℕ) (slots : List ℕ) (m : ℕ) → Checked clash n slots (Ok (Accepted m))
+    → (r : Result Verdict Refusal) → Checked clash n slots r → r ≡ Ok (Accepted (maxBelow (entries slots) n))
+checked-only clash n slots m a (Ok (Accepted v)) (h, (c, l)) = ap (λ (x : ℕ). Ok (Accepted x)) (largest-is n slots v l)
+checked-only clash n slots m a (Ok (Clash pair)) (h, p) =
+    absurd (let i = p .after in let j = p .inside in a .1 .0 (pair .0) (pair .1) (omega arith) (p .inside) (p .shares))
+checked-only clash n slots m a (Err e) h =
+    absurd (let l = a .0 in elim (why-cases (entry e .number) 1 (length slots < n) ⊥ h) [ inl q ↦ omega arith | inr q ↦ q ])

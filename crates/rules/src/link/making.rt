@@ -18,7 +18,8 @@ fn are_near(map: &Map, x: u8, y: u8) -> bool
 fn are_close(map: &Map, p: (u8, u8), q: (u8, u8)) -> bool
     ensures { λ r. ⌜ r ≡ close (now (map .entry)) p q ⌝ }
 {
-    (are_near(map, p.0, q.0) || are_near(map, p.0, q.1)) || (are_near(map, p.1, q.0) || are_near(map, p.1, q.1))
+    (are_near(map, p.0, q.0) || are_near(map, p.0, q.1))
+        || (are_near(map, p.1, q.0) || are_near(map, p.1, q.1))
 }
 
 impl<'a> LinkRule<'a> {
@@ -71,6 +72,9 @@ pub impl<'a> ClashRule for LinkRule<'a> as LinkClashes {
     }
 
     fn clashes(&self, a: usize, b: usize) -> bool {
-        a < self.pairs.len() && b < self.pairs.len() && a != b && are_close(self.map, self.pairs[a], self.pairs[b])
+        a < self.pairs.len()
+            && b < self.pairs.len()
+            && a != b
+            && are_close(self.map, self.pairs[a], self.pairs[b])
     }
 }

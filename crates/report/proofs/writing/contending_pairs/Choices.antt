@@ -2,7 +2,7 @@ use Prim.Native.Nat.{_*_, _≤_}
 use mathlib.Core.Path.{_≡_}
 use Rattle.marks.specs.Below.{sumBelow}
 use Rattle.map.specs.View.{rivals}
-use Rattle.report.proofs.contending_pairs.Given as given
+use Rattle.report.proofs.writing.contending_pairs.Given as given
 
 abbrev pub Inv-loop-n : given.InvT-loop-n
 Inv-loop-n l = (l .ends ≡ sumBelow (rivals (l .map)) (l .n)) × (l .ends ≤ 64 * l .n)

@@ -6,7 +6,7 @@ use Rattle.marks.proofs.Below.{sum-more}
 use Rattle.map.specs.View.{nodes, contend, rivals}
 use Rattle.map.proofs.Contends.{contend-mutual, contend-apart}
 use Rattle.map.proofs.Counts.{handshake, rivals-le}
-use Rattle.report.proofs.contending_pairs.Needs as need
+use Rattle.report.proofs.writing.contending_pairs.Needs as need
 
 pub add-ends : need.add-ends
 add-ends c = let m = c .args .map .now .most in omega (arith, c .loop-n .inv .1)
