@@ -1,0 +1,4 @@
+pub mod Ways
+pub mod Waiting
+pub mod Queue
+pub mod Coin
