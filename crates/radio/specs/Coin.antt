@@ -23,9 +23,9 @@ xorRight x k = bitXor x (x / 2 ^ k)
 unfoldable pub stepped : ℕ → ℕ
 stepped x = xorLeft (xorRight (xorLeft x 13) 17) 5
 
--- seed 0 stands for 1
+-- where the generator starts: a seed of 0 stands for 1
 abbrev pub seeded : ℕ → ℕ
-seeded seed = cond (eqb seed 0) 1 seed
+seeded given = cond (eqb given 0) 1 given
 
 -- the generator's value, and the messages that wait
 pub record CoinState : Type 0 where
