@@ -11,7 +11,7 @@ use Rattle.marks.specs.Below.{sumBelow, countBelow}
 use Rattle.marks.specs.View.{marked, size}
 use Rattle.marks.specs.declared.Marks.{Marks}
 use Rattle.marks.proofs.Below.{sum-past, square, count-like, count-le}
-use Rattle.map.specs.View.{nodes, linked, contend, Contend, degree, rivals, pairs, linkCount}
+use Rattle.map.specs.View.{nodes, linked, contend, Contend, degree, contenderCount, pairs, linkCount}
 use Rattle.map.specs.declared.Map.{Map}
 use Rattle.map.proofs.Contends.{contend-decides, contend-past}
 
@@ -42,7 +42,7 @@ module _ (m : Map) where
   pub size-neighbours : (n : ℕ) (s : Marks) → ((b : ℕ) → marked s b ≡ linked m n b) → size s ≡ degree m n
   size-neighbours n s same = size-below s (linked m n) (nodes m) (m .most) same (linked-past n)
 
-  pub size-contenders : (n : ℕ) (s : Marks) → ((b : ℕ) → Decides (marked s b) (Contend m n b)) → size s ≡ rivals m n
+  pub size-contenders : (n : ℕ) (s : Marks) → ((b : ℕ) → Decides (marked s b) (Contend m n b)) → size s ≡ contenderCount m n
   size-contenders n s same =
       size-below s (contend m n) (nodes m) (m .most) (λ b. same-from-decides (marked s b) (contend m n b) (same b) (contend-decides m n b)) (contend-past m n)
 
@@ -52,5 +52,5 @@ module _ (m : Map) where
   pub degree-le : (n : ℕ) → degree m n ≤ 64
   degree-le n = let l = count-le (linked m n) (nodes m) in let k = m .most in omega arith
 
-  pub rivals-le : (n : ℕ) → rivals m n ≤ 64
-  rivals-le n = let l = count-le (contend m n) (nodes m) in let k = m .most in omega arith
+  pub contenders-le : (n : ℕ) → contenderCount m n ≤ 64
+  contenders-le n = let l = count-le (contend m n) (nodes m) in let k = m .most in omega arith

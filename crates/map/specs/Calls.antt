@@ -22,11 +22,11 @@ ends a b x y = (eqb x a && eqb y b) || (eqb x b && eqb y a)
 abbrev pub linkedUp : Net → ℕ → ℕ → Net
 linkedUp n a b = record { size = n .size; links = λ x y. n .links x y || ends a b x y }
 
--- opening: `Count` unless there are 1 to 64 nodes
+-- opening: 2, `Count`, unless there are 1 to 64 nodes
 abbrev pub opening : ℕ → Result (Unit {0}) Refusal
 opening count = cond (leb 1 count && leb count 64) (Ok tt) (Err Count)
 
--- linking: `Node` unless both ends are below the count, then `SelfLink` if they are the same
+-- linking: 3, `Node`, unless both ends are below the count; then 4, `SelfLink`, if they are the same
 abbrev pub linking : ℕ → ℕ → ℕ → Result (Unit {0}) Refusal
 linking count a b = cond (ltb a count && ltb b count) (cond (eqb a b) (Err SelfLink) (Ok tt)) (Err Node)
 

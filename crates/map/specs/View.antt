@@ -31,8 +31,8 @@ contend m a b = not (eqb a b) && (linked m a b || someBelow (λ k. linked m a k 
 abbrev pub degree : Map → ℕ → ℕ
 degree m n = countBelow (linked m n) (nodes m)
 
-abbrev pub rivals : Map → ℕ → ℕ
-rivals m n = countBelow (contend m n) (nodes m)
+abbrev pub contenderCount : Map → ℕ → ℕ
+contenderCount m n = countBelow (contend m n) (nodes m)
 
 -- how many pairs below n are related, each pair once: for each number, those below it
 abbrev pub pairs : (ℕ → ℕ → Bool) → ℕ → ℕ

@@ -3,7 +3,7 @@ ghost use Prim.Native.Nat.{ℕ};
 ghost use mathlib.Core.Path.{_≡_};
 ghost use Rattle.std.specs.Orderings.{Decides};
 ghost use Rattle.marks.specs.View.{marked, size};
-ghost use Rattle.map.specs.View.{Contend, degree, linkCount, linked, nodes, rivals};
+ghost use Rattle.map.specs.View.{Contend, degree, linkCount, linked, nodes, contenderCount};
 use crate::Map;
 use marks::Marks;
 
@@ -44,7 +44,7 @@ impl Map {
     /// The contenders of `n`: the nodes other than `n` that are neighbours of `n` or of one.
     pub fn contenders(&self, n: u8) -> Marks
         ensures marks { λ r. ⌜ ((b : ℕ) → Decides (marked r b) (Contend (now (self .entry)) n b)) ⌝ }
-        ensures len { λ r. ⌜ size r ≡ rivals (now (self .entry)) n ⌝ }
+        ensures len { λ r. ⌜ size r ≡ contenderCount (now (self .entry)) n ⌝ }
         ensures swaps { λ r. ⌜ ((a b : ℕ) → Contend (now (self .entry)) a b → Contend (now (self .entry)) b a) ⌝ }
         ensures apart { λ r. ⌜ ((a : ℕ) → Contend (now (self .entry)) a a → ⊥) ⌝ }
     {

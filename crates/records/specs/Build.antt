@@ -65,7 +65,7 @@ pub record AllGood (job : List ℕ) : Type 0 where
   pub some : 0 < records job
   pub each : (i : ℕ) → i < records job → good job i ≡ true
 
--- why a job is refused: by its length, or at the first bad record; for no other reason
+-- why a job is refused: 2 or 13 by its length, or 14 at the first bad record; for no other reason
 abbrev pub Refused : List ℕ → Refusal → Type 0
 Refused job Short = ⊥
 Refused job Count = lengthRule (length job) ≡ Err Count

@@ -12,7 +12,7 @@ use Rattle.refusal.specs.declared.Refusal.{Refusal}
 use Rattle.refusal.specs.declared.Refusal.the-variants.{Count, Torn}
 use Rattle.records.specs.declared.fields.Record.{Record}
 
--- a job's length: `Count` past 32768 bytes, then `Torn` if it is no multiple of 8
+-- a job's length: 2, `Count`, past 32768 bytes; then 13, `Torn`, if it is no multiple of 8
 abbrev pub lengthRule : ℕ → Result (Unit {0}) Refusal
 lengthRule n = cond (leb n 32768) (cond (eqb (n % 8) 0) (Ok tt) (Err Torn)) (Err Count)
 

@@ -13,9 +13,9 @@ use Rattle.std.proofs.shelf.Counted.{length-map-counting, getD-map-counting}
 use Rattle.std.proofs.shelf.Decimals.{length-decimal-le}
 use Rattle.marks.specs.Below.{countBelow}
 use Rattle.marks.proofs.Below.{count-le, sum-le, max-le}
-use Rattle.map.specs.View.{nodes, linked, contend, degree, rivals, pairs, linkCount}
+use Rattle.map.specs.View.{nodes, linked, contend, degree, contenderCount, pairs, linkCount}
 use Rattle.map.specs.declared.Map.{Map}
-use Rattle.map.proofs.Counts.{degree-le, rivals-le}
+use Rattle.map.proofs.Counts.{degree-le, contenders-le}
 use Rattle.refusal.specs.declared.Refusal.{Refusal}
 use Rattle.refusal.specs.declared.Refusal.the-variants.{Short, Count, Node, SelfLink, Twice, Missing, Unlinked, Settled, Busy, Spent, Quiet, Foreign, Torn, Record}
 use Rattle.records.specs.Fields.{records}
@@ -27,7 +27,7 @@ use Rattle.text.proofs.Lines.{spaced-short, lineEnd-short}
 use Rattle.schedule.specs.Rand.{Fine}
 use Rattle.schedule.specs.declared.checking.Verdict.the-variants.{Accepted}
 use Rattle.schedule.proofs.Rand.{rand-is, rand-low}
-use Rattle.report.specs.Overview.{rising, slotOf, frame, contendCount, row, rows, verdictText, totals, overview}
+use Rattle.report.specs.Overview.{rising, slotOf, frame, contendingPairs, row, rows, verdictText, totals, overview}
 
 one : (bound a : ℕ) → a < bound → (i : ℕ) → i < 1 → getD (a ∷ []) i 0 < bound
 one bound a p zero l = p
@@ -67,8 +67,8 @@ slot-le m n l =
     omega arith
 
 module _ (m : Map) where
-  rivals-lt : (n : ℕ) → rivals m n < 100
-  rivals-lt n = let l = rivals-le m n in omega arith
+  contenders-lt : (n : ℕ) → contenderCount m n < 100
+  contenders-lt n = let l = contenders-le m n in omega arith
 
   degree-lt : (n : ℕ) → degree m n < 100
   degree-lt n = let l = degree-le m n in omega arith
@@ -82,8 +82,8 @@ module _ (m : Map) where
   row-short : (n slot : ℕ) → n < 64 → slot < 100 → length (row m n slot) ≤ 12
   row-short n slot l h =
       let d = length-decimal-le 2 n (omega arith) (omega arith) (omega arith) in
-      let e = lineEnd-short 2 (degree m n ∷ (rivals m n ∷ (slot ∷ []))) (omega arith) (omega arith) (three 100 (degree m n) (rivals m n) slot (degree-lt n) (rivals-lt n) h) in
-      let s = length-append (decimal n) (lineEnd (degree m n ∷ (rivals m n ∷ (slot ∷ [])))) in
+      let e = lineEnd-short 2 (degree m n ∷ (contenderCount m n ∷ (slot ∷ []))) (omega arith) (omega arith) (three 100 (degree m n) (contenderCount m n) slot (degree-lt n) (contenders-lt n) h) in
+      let s = length-append (decimal n) (lineEnd (degree m n ∷ (contenderCount m n ∷ (slot ∷ [])))) in
       omega arith
 
   rows-short : (slots : ℕ → ℕ) (k : ℕ) → k ≤ 64 → ((i : ℕ) → i < k → slots i < 100) → length (rows m slots k) ≤ 12 * k
@@ -104,9 +104,9 @@ module _ (m : Map) where
   totals-short : (largest : ℕ) → largest < 10000 → length (totals m (Ok (Accepted largest))) ≤ 100
   totals-short v l =
       let k = m .most in
-      let numbers = nodes m ∷ (linkCount m ∷ (contendCount m ∷ [])) in
-      let e = spaced-short 4 (nodes m ∷ (linkCount m ∷ (contendCount m ∷ []))) (omega arith) (omega arith)
-      (three 10000 (nodes m) (linkCount m) (contendCount m) (omega arith) (pairs-lt (linked m)) (pairs-lt (contend m))) in
+      let numbers = nodes m ∷ (linkCount m ∷ (contendingPairs m ∷ [])) in
+      let e = spaced-short 4 (nodes m ∷ (linkCount m ∷ (contendingPairs m ∷ []))) (omega arith) (omega arith)
+      (three 10000 (nodes m) (linkCount m) (contendingPairs m) (omega arith) (pairs-lt (linked m)) (pairs-lt (contend m))) in
       let t = accepted-short v l in
       let x = length-append (codes "total") (spaced numbers ++ (verdictText (Ok (Accepted v)) ++ (10 ∷ []))) in
       let y = length-append (spaced numbers) (verdictText (Ok (Accepted v)) ++ (10 ∷ [])) in

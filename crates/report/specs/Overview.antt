@@ -11,7 +11,7 @@ use Rattle.std.specs.declared.result.Result.the-variants.{Ok, Err}
 use Rattle.marks.specs.Below.{maxBelow}
 use Rattle.refusal.specs.Entry.{entry}
 use Rattle.refusal.specs.declared.Refusal.{Refusal}
-use Rattle.map.specs.View.{nodes, contend, degree, rivals, pairs, linkCount}
+use Rattle.map.specs.View.{nodes, contend, degree, contenderCount, pairs, linkCount}
 use Rattle.map.specs.declared.Map.{Map}
 use Rattle.records.specs.Build.{Built}
 use Rattle.schedule.specs.Rand.{rand}
@@ -32,12 +32,12 @@ abbrev pub frame : Map → ℕ
 frame m = maxBelow (slotOf m) (nodes m)
 
 -- how many pairs of nodes contend
-abbrev pub contendCount : Map → ℕ
-contendCount m = pairs (contend m) (nodes m)
+abbrev pub contendingPairs : Map → ℕ
+contendingPairs m = pairs (contend m) (nodes m)
 
 -- a line: node, neighbours, contenders, slot
 abbrev pub row : Map → ℕ → ℕ → List ℕ
-row m n slot = decimal n ++ lineEnd (degree m n ∷ (rivals m n ∷ (slot ∷ [])))
+row m n slot = decimal n ++ lineEnd (degree m n ∷ (contenderCount m n ∷ (slot ∷ [])))
 
 -- the lines of the nodes below k, by rising number, with their slots
 unfoldable pub rows : Map → (ℕ → ℕ) → ℕ → List ℕ
@@ -52,7 +52,7 @@ verdictText (Err e) = codes " refused" ++ spaced (entry e .number ∷ [])
 
 -- the last line: nodes, links, contending pairs, and the verdict
 abbrev pub totals : Map → Result Verdict Refusal → List ℕ
-totals m verdict = codes "total" ++ (spaced (nodes m ∷ (linkCount m ∷ (contendCount m ∷ []))) ++ (verdictText verdict ++ (10 ∷ [])))
+totals m verdict = codes "total" ++ (spaced (nodes m ∷ (linkCount m ∷ (contendingPairs m ∷ []))) ++ (verdictText verdict ++ (10 ∷ [])))
 
 -- the slots of the nodes planned in rising order are always accepted
 abbrev pub overview : Map → List ℕ

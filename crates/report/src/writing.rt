@@ -3,7 +3,7 @@ ghost use lib.ListN.{length};
 ghost use mathlib.Core.List.{_++_};
 ghost use mathlib.Core.Path.{_≡_};
 ghost use Rattle.map.specs.View.{nodes};
-ghost use Rattle.report.specs.Overview.{contendCount, row, rows, totals, verdictText};
+ghost use Rattle.report.specs.Overview.{contendingPairs, row, rows, totals, verdictText};
 ghost use Rattle.schedule.specs.Order.{entries};
 ghost use Rattle.text.specs.Written.{clip, written};
 use map::Map;
@@ -13,7 +13,7 @@ use text::Text;
 
 // The number of pairs that contend, each counted once: each is seen from both of its ends.
 fn contending_pairs(map: &Map) -> usize
-    ensures { λ r. ⌜ r ≡ contendCount (now (map .entry)) ⌝ }
+    ensures { λ r. ⌜ r ≡ contendingPairs (now (map .entry)) ⌝ }
 {
     let mut ends = 0;
     for n in 0..map.count() {

@@ -3,9 +3,9 @@ use mathlib.Core.Path.{_≡_, refl, ap, _∙_}
 use native.Mathlib.Omega.{arith}
 use Rattle.marks.specs.Below.{sumBelow}
 use Rattle.marks.proofs.Below.{sum-more}
-use Rattle.map.specs.View.{nodes, contend, rivals}
+use Rattle.map.specs.View.{nodes, contend, contenderCount}
 use Rattle.map.proofs.Contends.{contend-mutual, contend-apart}
-use Rattle.map.proofs.Counts.{handshake, rivals-le}
+use Rattle.map.proofs.Counts.{handshake, contenders-le}
 use Rattle.report.proofs.writing.contending_pairs.Needs as need
 
 pub add-ends : need.add-ends
@@ -18,17 +18,17 @@ loop-n-holds c = (refl, omega arith)
 pub loop-n-again : need.loop-n-again
 loop-n-again c =
     let m = c .args .map .now in
-    let s = sum-more (rivals m) (c .loop-n .n) in
-    let k = rivals-le m (c .loop-n .n) in
+    let s = sum-more (contenderCount m) (c .loop-n .n) in
+    let k = contenders-le m (c .loop-n .n) in
     let i = c .loop-n .inv in
-    let e : c .from-ends .result ≡ rivals m (c .loop-n .n) = c .from-ends .ensures ∙ c .len .ensures ∙ c .contenders .ensures .len in
+    let e : c .from-ends .result ≡ contenderCount m (c .loop-n .n) = c .from-ends .ensures ∙ c .len .ensures ∙ c .contenders .ensures .len in
     (omega arith, omega arith)
 
 pub returns : need.returns
 returns c =
     let m = c .args .map .now in
     let e : c .loop-n .n ≡ nodes m = omega arith in
-    let s = ap (sumBelow (rivals m)) e in
+    let s = ap (sumBelow (contenderCount m)) e in
     let t = handshake (contend m) (contend-mutual m) (contend-apart m) (nodes m) in
     let i = c .loop-n .inv .0 in
     omega arith
