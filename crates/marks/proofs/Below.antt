@@ -58,6 +58,9 @@ square f swap none (suc n) =
 pub count-like : (p q : ℕ → Bool) (n : ℕ) → ((i : ℕ) → i < n → p i ≡ q i) → countBelow p n ≡ countBelow q n
 count-like p q n h = sum-like (λ i. cond (p i) 1 0) (λ i. cond (q i) 1 0) n (λ i l. ap (λ (b : Bool). cond {A = ℕ} b 1 0) (h i l))
 
+pub count-more : (p : ℕ → Bool) (n : ℕ) (v : Bool) → p n ≡ v → countBelow p (n + 1) ≡ countBelow p n + cond v 1 0
+count-more p n v e = sum-more (λ i. cond (p i) 1 0) n ∙ ap (λ (b : Bool). countBelow p n + cond b 1 0) e
+
 one-at-most : (b : Bool) → cond b 1 0 ≤ 1
 one-at-most true = omega arith
 one-at-most false = omega arith

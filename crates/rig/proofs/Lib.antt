@@ -1,0 +1,3 @@
+pub mod Calms
+pub mod Rows
+pub mod Settles

@@ -1,0 +1,4 @@
+pub mod Calm
+pub mod Board
+pub mod Steps
+pub mod Made
