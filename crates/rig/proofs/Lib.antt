@@ -1,3 +1,5 @@
 pub mod Calms
+pub mod Empty
+pub mod Keeps
 pub mod Rows
 pub mod Settles

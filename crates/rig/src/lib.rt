@@ -7,6 +7,7 @@ use map::Map;
 mod drawing;
 mod node;
 mod opening;
+mod questions;
 mod receiving;
 mod sending;
 mod settling;

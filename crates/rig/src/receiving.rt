@@ -3,6 +3,7 @@ ghost use Prim.Native.Nat.{_<_};
 ghost use mathlib.Core.Path.{_≡_};
 ghost use Rattle.map.specs.View.{nodes};
 ghost use Rattle.rig.specs.Calm.{at};
+ghost use Rattle.rig.specs.Laws.{LawfulDelivery};
 ghost use Rattle.rig.specs.Made.{Made};
 ghost use Rattle.rig.specs.Steps.{complete, delivered, foreign, frees, hears, onGrant, onReject, onRequest, received, serves, waits};
 use crate::Node;
@@ -162,6 +163,7 @@ impl Rig {
     pub fn deliver<R: Radio>(&mut self, radio: &mut R) -> Result<u8, Refusal>
         ensures made { λ _. ⌜ Made ways (now (self .entry)) (now (self .exit)) (ways .afterTake (state (now (radio .entry)))) (state (now (radio .exit))) (delivered (now (self .entry) .map) (now (self .entry) .nodes) (ways .taken (state (now (radio .entry)))) .board) (delivered (now (self .entry) .map) (now (self .entry) .nodes) (ways .taken (state (now (radio .entry)))) .sent) ⌝ }
         ensures value { λ r. ⌜ r ≡ delivered (now (self .entry) .map) (now (self .entry) .nodes) (ways .taken (state (now (radio .entry)))) .answer ⌝ }
+        ensures lawful { λ _. ⌜ LawfulDelivery (now (self .entry) .nodes) (ways .taken (state (now (radio .entry)))) (delivered (now (self .entry) .map) (now (self .entry) .nodes) (ways .taken (state (now (radio .entry))))) ⌝ }
     {
         match radio.take() {
             Some(x) => self.receive(x, radio),
