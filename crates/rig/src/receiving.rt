@@ -113,7 +113,11 @@ impl Rig {
         let node = self.nodes[x.receiver as usize];
         if serves_in(node, x.sender, x.round) {
             let mut freed = node;
-            freed.phase = if node.slot == 0 { Phase::Idle } else { Phase::Release };
+            freed.phase = if node.slot == 0 {
+                Phase::Idle
+            } else {
+                Phase::Release
+            };
             self.nodes[x.receiver as usize] = freed;
         }
     }
@@ -132,7 +136,10 @@ impl Rig {
     fn is_foreign(&self, x: Message) -> bool
         ensures { λ r. ⌜ r ≡ foreign (now (self .entry) .map) x ⌝ }
     {
-        x.kind == 0 || x.kind > 5 || !self.map.linked(x.sender, x.receiver) || x.kind == 4 && (x.slot == 0 || x.slot > 64)
+        x.kind == 0
+            || x.kind > 5
+            || !self.map.linked(x.sender, x.receiver)
+            || x.kind == 4 && (x.slot == 0 || x.slot > 64)
     }
 
     fn receive<R: Radio>(&mut self, x: Message, radio: &mut R) -> Result<u8, Refusal>

@@ -11,7 +11,14 @@ use radio::Message;
 use radio::Radio;
 
 // A message without a set.
-pub(crate) fn send<R: Radio>(radio: &mut R, kind: u8, round: u16, slot: u8, sender: u8, receiver: u8)
+pub(crate) fn send<R: Radio>(
+    radio: &mut R,
+    kind: u8,
+    round: u16,
+    slot: u8,
+    sender: u8,
+    receiver: u8,
+)
     ensures { λ _. ⌜ state (now (radio .exit)) ≡ ways .afterPut (state (now (radio .entry))) (plain kind round slot sender receiver) ⌝ }
 {
     let slots = Marks::empty();
@@ -52,7 +59,14 @@ pub(crate) fn send_grant<R: Radio>(radio: &mut R, node: Node, round: u16, sender
 }
 
 // One message to each neighbour, by rising number.
-pub(crate) fn send_to_all<R: Radio>(radio: &mut R, map: &Map, kind: u8, round: u16, slot: u8, sender: u8)
+pub(crate) fn send_to_all<R: Radio>(
+    radio: &mut R,
+    map: &Map,
+    kind: u8,
+    round: u16,
+    slot: u8,
+    sender: u8,
+)
     ensures { λ _. ⌜ state (now (radio .exit)) ≡ puts ways (state (now (radio .entry))) (each (linked (now (map .entry)) sender) (plain kind round slot sender) (nodes (now (map .entry)))) ⌝ }
 {
     for j in 0..map.count() {

@@ -38,13 +38,13 @@ loop-j-again g c =
     ] in
     elim (c .if-open .came) [
       | then-open w ↦ (
-            each-sent (r .ways) s p f t (r .state (c .if-open .radio)) j (test ∙ w .if-open .taken) (c .loop-j .inv .0) (ap (r .state) (w .radio-is) ∙ w .send .ensures),
-            w .sent-is ∙ sym (each-length p f j true (test ∙ w .if-open .taken) ∙ ap (λ (x : ℕ). x + 1) (sym (c .loop-j .inv .1))),
-          )
+        each-sent (r .ways) s p f t (r .state (c .if-open .radio)) j (test ∙ w .if-open .taken) (c .loop-j .inv .0) (ap (r .state) (w .radio-is) ∙ w .send .ensures),
+        w .sent-is ∙ sym (each-length p f j true (test ∙ w .if-open .taken) ∙ ap (λ (x : ℕ). x + 1) (sym (c .loop-j .inv .1))),
+      )
       | else-open w ↦ (
-            ap (r .state) (w .radio-is) ∙ each-skipped (r .ways) s p f t j (test ∙ w .if-open .left) (c .loop-j .inv .0),
-            w .sent-is ∙ c .loop-j .inv .1 ∙ sym (each-length p f j false (test ∙ w .if-open .left) ∙ (let z : length (each p f j) + 0 ≡ length (each p f j) = omega arith in z)),
-          )
+        ap (r .state) (w .radio-is) ∙ each-skipped (r .ways) s p f t j (test ∙ w .if-open .left) (c .loop-j .inv .0),
+        w .sent-is ∙ c .loop-j .inv .1 ∙ sym (each-length p f j false (test ∙ w .if-open .left) ∙ (let z : length (each p f j) + 0 ≡ length (each p f j) = omega arith in z)),
+      )
     ]
 
 pub returns : need.returns

@@ -10,5 +10,5 @@ abbrev pub Inv-loop-j : given.InvT-loop-j
 Inv-loop-j g l =
     let r = g .R·Radio in
     (r .state (l .radio)
-      ≡ puts (r .ways) (r .state (l .entry .radio)) (each (unmarked (l .self .map) (at (l .self .nodes) (l .k)) (l .k)) (request (at (l .self .nodes) (l .k) .round) (l .k)) (l .j)))
+    ≡ puts (r .ways) (r .state (l .entry .radio)) (each (unmarked (l .self .map) (at (l .self .nodes) (l .k)) (l .k)) (request (at (l .self .nodes) (l .k) .round) (l .k)) (l .j)))
     × (l .sent ≡ length (each (unmarked (l .self .map) (at (l .self .nodes) (l .k)) (l .k)) (request (at (l .self .nodes) (l .k) .round) (l .k)) (l .j)))
