@@ -22,6 +22,7 @@ use Rattle.rig.specs.declared.node.Node.{Node}
 use Rattle.rig.specs.declared.node.Phase.{Phase}
 use Rattle.rig.specs.declared.node.Phase.the-variants.{Idle, Request, Grant, Release}
 use Rattle.rig.specs.declared.Lottery.{Lottery}
+use Rattle.radio.specs.Ways.{Ways, puts}
 use Rattle.rig.specs.Calm.{at, isRequest, isGrant, Calm}
 use Rattle.rig.specs.Board.{Board, put, decidedCount}
 use Rattle.rig.specs.Laws.{Decides, Touches, Lawful, LawfulDelivery}
@@ -68,13 +69,19 @@ then-touched b c d n p q =
     (λ k h. q .slots k (λ z. h (sym (p .slots k h) ∙ z)) ∙ p .slots k h)
     (λ k. let x = p .rounds k in let y = q .rounds k in omega arith)
 
+-- ---- what a call is said to do touches one node, and a refusal alters nothing and sends nothing
+
+pub record Steady {A : Type 0} (b : Board) (n : ℕ) (a : After A) : Type 0 where
+  pub touches : Touches b (a .board) n
+  pub refusal : (e : Refusal) → a .answer ≡ Err e → (a .board ≡ b) × (a .sent ≡ [])
+
 -- ---- calls that refuse, and calls that do not
 
-lawful-refused : {A : Type 0} (b : Board) (n : ℕ) (e : Refusal) → Lawful {A = A} b n (refused b e)
-lawful-refused b n e = record { touches = none-touched b n; refusal = λ _ _. (refl, refl) }
+steady-refused : {A : Type 0} (b : Board) (n : ℕ) (e : Refusal) → Steady {A = A} b n (refused b e)
+steady-refused b n e = record { touches = none-touched b n; refusal = λ _ _. (refl, refl) }
 
-lawful-ok : {A : Type 0} (b c : Board) (n : ℕ) (out : List Message) (o : A) → Touches b c n → Lawful b n (record { board = c; sent = out; answer = Ok o })
-lawful-ok b c n out o t = record { touches = t; refusal = λ e q. absurd (let z : _≡_ {A = ℕ} 0 1 = cc in omega arith) }
+steady-ok : {A : Type 0} (b c : Board) (n : ℕ) (out : List Message) (o : A) → Touches b c n → Steady b n (record { board = c; sent = out; answer = Ok o })
+steady-ok b c n out o t = record { touches = t; refusal = λ e q. absurd (let z : _≡_ {A = ℕ} 0 1 = cc in omega arith) }
 
 -- ---- deciding
 
@@ -95,71 +102,71 @@ module _ (m : Map) where
 
   -- ---- draw
 
-  won-lawful : (b : Board) (k : ℕ) → at b k .slot ≡ 0 → Lawful b k (won m b k)
-  won-lawful b k u =
-      cond-both (someBelow (linked m k) (nodes m)) _ _ (Lawful b k)
-      (λ _. lawful-ok b (put b k (asking (at b k))) k _ _ asked)
-      (λ _. lawful-ok b (settled m (put b k (asking (at b k))) k) k _ _
+  won-steady : (b : Board) (k : ℕ) → at b k .slot ≡ 0 → Steady b k (won m b k)
+  won-steady b k u =
+      cond-both (someBelow (linked m k) (nodes m)) _ _ (Steady b k)
+      (λ _. steady-ok b (put b k (asking (at b k))) k _ _ asked)
+      (λ _. steady-ok b (settled m (put b k (asking (at b k))) k) k _ _
       (then-touched b (put b k (asking (at b k))) (settled m (put b k (asking (at b k))) k) k asked
       (settled-touched (put b k (asking (at b k))) k (still-none b k (asking (at b k)) u u))))
     where
       asked : Touches b (put b k (asking (at b k))) k
       asked = one-touched b k (asking (at b k)) (λ _. refl) (omega arith)
 
-  pub drawn-lawful : (b : Board) (k v : ℕ) → Lawful b k (drawn m b k v)
-  drawn-lawful b k v =
-      cond-both (ltb k (nodes m)) _ _ (Lawful b k)
-      (λ _. cond-both (eqb (at b k .slot) 0) _ _ (Lawful b k)
-      (λ u. cond-both (isRequest (at b k .phase) || isGrant (at b k .phase)) _ _ (Lawful b k) (λ _. lawful-refused b k _)
-      (λ _. cond-both (eqb (at b k .round) 65535) _ _ (Lawful b k) (λ _. lawful-refused b k _)
-      (λ _. cond-both (wins m k v) _ _ (Lawful b k) (λ _. won-lawful b k (eqb-true (at b k .slot) 0 u)) (λ _. lawful-ok b b k _ _ (none-touched b k)))))
-      (λ _. lawful-refused b k _))
-      (λ _. lawful-refused b k _)
+  pub drawn-steady : (b : Board) (k v : ℕ) → Steady b k (drawn m b k v)
+  drawn-steady b k v =
+      cond-both (ltb k (nodes m)) _ _ (Steady b k)
+      (λ _. cond-both (eqb (at b k .slot) 0) _ _ (Steady b k)
+      (λ u. cond-both (isRequest (at b k .phase) || isGrant (at b k .phase)) _ _ (Steady b k) (λ _. steady-refused b k _)
+      (λ _. cond-both (eqb (at b k .round) 65535) _ _ (Steady b k) (λ _. steady-refused b k _)
+      (λ _. cond-both (wins m k v) _ _ (Steady b k) (λ _. won-steady b k (eqb-true (at b k .slot) 0 u)) (λ _. steady-ok b b k _ _ (none-touched b k)))))
+      (λ _. steady-refused b k _))
+      (λ _. steady-refused b k _)
 
   -- ---- nudge
 
-  nudges-lawful : (b : Board) (k : ℕ) (p : Phase) → Lawful b k (nudges m b k p)
-  nudges-lawful b k Idle = lawful-refused b k _
-  nudges-lawful b k Request = lawful-ok b b k _ _ (none-touched b k)
-  nudges-lawful b k Grant = lawful-ok b b k _ _ (none-touched b k)
-  nudges-lawful b k Release = lawful-refused b k _
+  nudges-steady : (b : Board) (k : ℕ) (p : Phase) → Steady b k (nudges m b k p)
+  nudges-steady b k Idle = steady-refused b k _
+  nudges-steady b k Request = steady-ok b b k _ _ (none-touched b k)
+  nudges-steady b k Grant = steady-ok b b k _ _ (none-touched b k)
+  nudges-steady b k Release = steady-refused b k _
 
-  pub nudged-lawful : (b : Board) (k : ℕ) → Lawful b k (nudged m b k)
-  nudged-lawful b k = cond-both (ltb k (nodes m)) _ _ (Lawful b k) (λ _. nudges-lawful b k (at b k .phase)) (λ _. lawful-refused b k _)
+  pub nudged-steady : (b : Board) (k : ℕ) → Steady b k (nudged m b k)
+  nudged-steady b k = cond-both (ltb k (nodes m)) _ _ (Steady b k) (λ _. nudges-steady b k (at b k .phase)) (λ _. steady-refused b k _)
 
   -- ---- deliver
 
   module _ (b : Board) (calm : Calm b) (x : Message) where
-    same : (out : List Message) (kind : ℕ) → Lawful b (x .receiver) (sends m b out kind)
-    same out kind = lawful-ok b b (x .receiver) out kind (none-touched b (x .receiver))
+    same : (out : List Message) (kind : ℕ) → Steady b (x .receiver) (sends m b out kind)
+    same out kind = steady-ok b b (x .receiver) out kind (none-touched b (x .receiver))
 
-    granting-lawful : Lawful b (x .receiver) (granting m b x)
-    granting-lawful = lawful-ok b _ (x .receiver) _ _ (one-touched b (x .receiver) (bound (at b (x .receiver)) (x .sender) (x .round)) (λ _. refl) (omega arith))
+    granting-steady : Steady b (x .receiver) (granting m b x)
+    granting-steady = steady-ok b _ (x .receiver) _ _ (one-touched b (x .receiver) (bound (at b (x .receiver)) (x .sender) (x .round)) (λ _. refl) (omega arith))
 
-    request-lawful : (p : Phase) → Lawful b (x .receiver) (onRequest m b x p)
-    request-lawful Idle = granting-lawful
-    request-lawful Request = same _ _
-    request-lawful Grant = cond-both (serves (at b (x .receiver)) (x .sender) (x .round)) _ _ (Lawful b (x .receiver)) (λ _. same _ _) (λ _. same _ _)
-    request-lawful Release = granting-lawful
+    request-steady : (p : Phase) → Steady b (x .receiver) (onRequest m b x p)
+    request-steady Idle = granting-steady
+    request-steady Request = same _ _
+    request-steady Grant = cond-both (serves (at b (x .receiver)) (x .sender) (x .round)) _ _ (Steady b (x .receiver)) (λ _. same _ _) (λ _. same _ _)
+    request-steady Release = granting-steady
 
-    grant-lawful : Lawful b (x .receiver) (onGrant m b x)
-    grant-lawful =
-        cond-both (waits (at b (x .receiver)) (x .round)) _ _ (Lawful b (x .receiver))
+    grant-steady : Steady b (x .receiver) (onGrant m b x)
+    grant-steady =
+        cond-both (waits (at b (x .receiver)) (x .round)) _ _ (Steady b (x .receiver))
         (λ w. let u = calm (x .receiver) (and-parts (isRequest (at b (x .receiver) .phase)) (eqb (x .round) (at b (x .receiver) .round)) w .0) in
-        cond-both (complete m (counts m b x) (x .receiver)) _ _ (Lawful b (x .receiver))
-        (λ _. lawful-ok b (settled m (counts m b x) (x .receiver)) (x .receiver) _ _
+        cond-both (complete m (counts m b x) (x .receiver)) _ _ (Steady b (x .receiver))
+        (λ _. steady-ok b (settled m (counts m b x) (x .receiver)) (x .receiver) _ _
         (then-touched b (counts m b x) (settled m (counts m b x) (x .receiver)) (x .receiver) marked
         (settled-touched (counts m b x) (x .receiver) (still-none b (x .receiver) (counted (at b (x .receiver)) (x .sender) (x .slots)) u u))))
-        (λ _. lawful-ok b (counts m b x) (x .receiver) _ _ marked))
-        (λ _. cond-both (not (eqb (at b (x .receiver) .slot) 0) && eqb (at b (x .receiver) .dated) (x .round)) _ _ (Lawful b (x .receiver)) (λ _. same _ _) (λ _. same _ _))
+        (λ _. steady-ok b (counts m b x) (x .receiver) _ _ marked))
+        (λ _. cond-both (not (eqb (at b (x .receiver) .slot) 0) && eqb (at b (x .receiver) .dated) (x .round)) _ _ (Steady b (x .receiver)) (λ _. same _ _) (λ _. same _ _))
       where
         marked : Touches b (counts m b x) (x .receiver)
         marked = one-touched b (x .receiver) (counted (at b (x .receiver)) (x .sender) (x .slots)) (λ _. refl) (omega arith)
 
-    reject-lawful : Lawful b (x .receiver) (onReject m b x)
-    reject-lawful =
-        cond-both (waits (at b (x .receiver)) (x .round)) _ _ (Lawful b (x .receiver))
-        (λ _. lawful-ok b (gaveUp m b (x .receiver)) (x .receiver) _ _ (one-touched b (x .receiver) (phased (at b (x .receiver)) Idle) (λ _. refl) (omega arith)))
+    reject-steady : Steady b (x .receiver) (onReject m b x)
+    reject-steady =
+        cond-both (waits (at b (x .receiver)) (x .round)) _ _ (Steady b (x .receiver))
+        (λ _. steady-ok b (gaveUp m b (x .receiver)) (x .receiver) _ _ (one-touched b (x .receiver) (phased (at b (x .receiver)) Idle) (λ _. refl) (omega arith)))
         (λ _. same _ _)
 
     freed-touched : (c : Board) → Touches c (frees m c x) (x .receiver)
@@ -170,16 +177,34 @@ module _ (m : Map) where
     heard-touched : Touches b (hears m b x) (x .receiver)
     heard-touched = one-touched b (x .receiver) (hearing (at b (x .receiver)) (x .slot)) (λ _. refl) (omega arith)
 
-    received-lawful : Lawful b (x .receiver) (received m b x)
-    received-lawful =
-        cond-both (foreign m x) _ _ (Lawful b (x .receiver)) (λ _. lawful-refused b (x .receiver) _)
-        (λ _. cond-both (eqb (x .kind) 1) _ _ (Lawful b (x .receiver)) (λ _. request-lawful (at b (x .receiver) .phase))
-        (λ _. cond-both (eqb (x .kind) 2) _ _ (Lawful b (x .receiver)) (λ _. grant-lawful)
-        (λ _. cond-both (eqb (x .kind) 3) _ _ (Lawful b (x .receiver)) (λ _. reject-lawful)
-        (λ _. cond-both (eqb (x .kind) 4) _ _ (Lawful b (x .receiver))
-        (λ _. lawful-ok b (frees m (hears m b x) x) (x .receiver) _ _ (then-touched b (hears m b x) (frees m (hears m b x) x) (x .receiver) heard-touched (freed-touched (hears m b x))))
-        (λ _. lawful-ok b (frees m b x) (x .receiver) _ _ (freed-touched b))))))
+    received-steady : Steady b (x .receiver) (received m b x)
+    received-steady =
+        cond-both (foreign m x) _ _ (Steady b (x .receiver)) (λ _. steady-refused b (x .receiver) _)
+        (λ _. cond-both (eqb (x .kind) 1) _ _ (Steady b (x .receiver)) (λ _. request-steady (at b (x .receiver) .phase))
+        (λ _. cond-both (eqb (x .kind) 2) _ _ (Steady b (x .receiver)) (λ _. grant-steady)
+        (λ _. cond-both (eqb (x .kind) 3) _ _ (Steady b (x .receiver)) (λ _. reject-steady)
+        (λ _. cond-both (eqb (x .kind) 4) _ _ (Steady b (x .receiver))
+        (λ _. steady-ok b (frees m (hears m b x) x) (x .receiver) _ _ (then-touched b (hears m b x) (frees m (hears m b x) x) (x .receiver) heard-touched (freed-touched (hears m b x))))
+        (λ _. steady-ok b (frees m b x) (x .receiver) _ _ (freed-touched b))))))
 
-  pub delivered-lawful : (b : Board) → Calm b → (o : Option Message) → LawfulDelivery b o (delivered m b o)
-  delivered-lawful b calm None = (refl, refl)
-  delivered-lawful b calm (Some x) = received-lawful b calm x
+-- ---- so it is for rig and radio
+
+done : {A S : Type 0} (w : Ways S) (b b′ : Board) (s s′ : S) (n : ℕ) (r : Result A Refusal) (a : After A) → Steady b n a → b′ ≡ a .board → s′ ≡ puts w s (a .sent) → r ≡ a .answer → Lawful b b′ s s′ n r
+done w b b′ s s′ n r a t p q v = record {
+  touches = subst (λ (c : Board). Touches b c n) (sym p) (t .touches);
+  refusal = λ e f. let z = t .refusal e (sym v ∙ f) in (p ∙ z .0, q ∙ ap (puts w s) (z .1));
+}
+
+module _ {S : Type 0} (w : Ways S) (m : Map) (b b′ : Board) (s s′ : S) where
+  pub drawn-lawful : (k v : ℕ) (r : Result Lottery Refusal) → b′ ≡ drawn m b k v .board → s′ ≡ puts w s (drawn m b k v .sent) → r ≡ drawn m b k v .answer → Lawful b b′ s s′ k r
+  drawn-lawful k v r = done w b b′ s s′ k r (drawn m b k v) (drawn-steady m b k v)
+
+  pub delivered-lawful : Calm b → (o : Option Message) (r : Result ℕ Refusal) → b′ ≡ delivered m b o .board → s′ ≡ puts w s (delivered m b o .sent) → r ≡ delivered m b o .answer → LawfulDelivery b b′ s s′ o r
+  delivered-lawful calm None r p q v = (p, q)
+  delivered-lawful calm (Some x) r p q v = done w b b′ s s′ (x .receiver) r (received m b x) (received-steady m b calm x) p q v
+
+pub nudged-lawful : {S : Type 0} (w : Ways S) (m : Map) (b : Board) (s s′ : S) (k : ℕ) (r : Result ℕ Refusal) → s′ ≡ puts w s (nudged m b k .sent) → r ≡ nudged m b k .answer → Lawful b b s s′ k r
+nudged-lawful w m b s s′ k r q v = record {
+  touches = none-touched b k;
+  refusal = λ e f. (refl, q ∙ ap (puts w s) (nudged-steady m b k .refusal e (sym v ∙ f) .1));
+}

@@ -71,7 +71,7 @@ impl Rig {
     pub fn draw<R: Radio>(&mut self, k: u8, v: u32, radio: &mut R) -> Result<Lottery, Refusal>
         ensures made { λ _. ⌜ Made ways (now (self .entry)) (now (self .exit)) (state (now (radio .entry))) (state (now (radio .exit))) (drawn (now (self .entry) .map) (now (self .entry) .nodes) k v .board) (drawn (now (self .entry) .map) (now (self .entry) .nodes) k v .sent) ⌝ }
         ensures value { λ r. ⌜ r ≡ drawn (now (self .entry) .map) (now (self .entry) .nodes) k v .answer ⌝ }
-        ensures lawful { λ _. ⌜ Lawful (now (self .entry) .nodes) k (drawn (now (self .entry) .map) (now (self .entry) .nodes) k v) ⌝ }
+        ensures lawful { λ r. ⌜ Lawful (now (self .entry) .nodes) (now (self .exit) .nodes) (state (now (radio .entry))) (state (now (radio .exit))) k r ⌝ }
     {
         if k >= self.map.count() {
             return Err(Refusal::Node);
@@ -119,7 +119,7 @@ impl Rig {
     pub fn nudge<R: Radio>(&self, k: u8, radio: &mut R) -> Result<u8, Refusal>
         ensures radio { λ _. ⌜ state (now (radio .exit)) ≡ puts ways (state (now (radio .entry))) (nudged (now (self .entry) .map) (now (self .entry) .nodes) k .sent) ⌝ }
         ensures value { λ r. ⌜ r ≡ nudged (now (self .entry) .map) (now (self .entry) .nodes) k .answer ⌝ }
-        ensures lawful { λ _. ⌜ Lawful (now (self .entry) .nodes) k (nudged (now (self .entry) .map) (now (self .entry) .nodes) k) ⌝ }
+        ensures lawful { λ r. ⌜ Lawful (now (self .entry) .nodes) (now (self .entry) .nodes) (state (now (radio .entry))) (state (now (radio .exit))) k r ⌝ }
     {
         if k >= self.map.count() {
             return Err(Refusal::Node);

@@ -170,7 +170,7 @@ impl Rig {
     pub fn deliver<R: Radio>(&mut self, radio: &mut R) -> Result<u8, Refusal>
         ensures made { λ _. ⌜ Made ways (now (self .entry)) (now (self .exit)) (ways .afterTake (state (now (radio .entry)))) (state (now (radio .exit))) (delivered (now (self .entry) .map) (now (self .entry) .nodes) (ways .taken (state (now (radio .entry)))) .board) (delivered (now (self .entry) .map) (now (self .entry) .nodes) (ways .taken (state (now (radio .entry)))) .sent) ⌝ }
         ensures value { λ r. ⌜ r ≡ delivered (now (self .entry) .map) (now (self .entry) .nodes) (ways .taken (state (now (radio .entry)))) .answer ⌝ }
-        ensures lawful { λ _. ⌜ LawfulDelivery (now (self .entry) .nodes) (ways .taken (state (now (radio .entry)))) (delivered (now (self .entry) .map) (now (self .entry) .nodes) (ways .taken (state (now (radio .entry))))) ⌝ }
+        ensures lawful { λ r. ⌜ LawfulDelivery (now (self .entry) .nodes) (now (self .exit) .nodes) (ways .afterTake (state (now (radio .entry)))) (state (now (radio .exit))) (ways .taken (state (now (radio .entry)))) r ⌝ }
     {
         match radio.take() {
             Some(x) => self.receive(x, radio),

@@ -9,5 +9,5 @@ returns-in-Some g c =
     record {
       made = search needs;
       value = search needs;
-      lawful = delivered-lawful (rig .map) (rig .nodes) (rig .calm) (r .ways .taken (r .state (c .args .radio .now)));
+      lawful = delivered-lawful (r .ways) (rig .map) (rig .nodes) _ _ _ (rig .calm) (r .ways .taken (r .state (c .args .radio .now))) _ (search needs) (search needs) (search needs);
     }

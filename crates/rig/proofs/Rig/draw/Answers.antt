@@ -6,5 +6,5 @@ pub returns-then-wins : need.returns-then-wins
 returns-then-wins g c = record {
   made = search needs;
   value = search needs;
-  lawful = drawn-lawful (c .args .self .now .map) (c .args .self .now .nodes) (c .args .k) (c .args .v);
+  lawful = drawn-lawful (g .R·Radio .ways) (c .args .self .now .map) (c .args .self .now .nodes) _ _ _ (c .args .k) (c .args .v) _ (search needs) (search needs) (search needs);
 }
