@@ -25,13 +25,13 @@ pub trait Radio {
         ensures value { result ≡ ways.taken (state self.old) };
 
     // The air rule: after putting in, each message in the air was there before or is the one put in.
-    ghost putAir: { (s : State) (m x : Message) → In x (ways.air (ways.after_put s m)) → In x (ways.air s) ⊎ (x ≡ m) };
+    ghost put_air: { (s : State) (m x : Message) → In x (ways.air (ways.after_put s m)) → In x (ways.air s) ⊎ (x ≡ m) };
 
     // Each message in the air after a taking was in it before.
-    ghost takeAir: { (s : State) (x : Message) → In x (ways.air (ways.after_take s)) → In x (ways.air s) };
+    ghost take_air: { (s : State) (x : Message) → In x (ways.air (ways.after_take s)) → In x (ways.air s) };
 
     // A message answered was in the air.
-    ghost takenAir: { (s : State) (x : Message) → ways.taken s ≡ Some x → In x (ways.air s) };
+    ghost taken_air: { (s : State) (x : Message) → ways.taken s ≡ Some x → In x (ways.air s) };
 }
 
 /// Puts a list of messages in, in its order. Each message in the air is then one that was there
