@@ -1,6 +1,8 @@
 //! Compares the kit with worked examples and with a second planner of its own, written by another
 //! method, on maps and orders drawn from a generator. Prints a line for each group with how many
 //! cases agreed, and ends with an error if any differed.
+#![tactic(auto)]
+
 use anyhow::anyhow;
 use score::Score;
 

@@ -1,4 +1,6 @@
 //! The drive: settles a whole bench in an order of the caller's choice.
+#![tactic(auto)]
+
 mod driving;
 mod ordering;
 mod settling;

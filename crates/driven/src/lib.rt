@@ -1,5 +1,7 @@
 //! The report on a job's drive: the slots that its map's nodes get from the protocol, driven in
 //! rising order, beside those of the planner; or why the job is refused.
+#![tactic(auto)]
+
 ghost use Rattle.std.specs.Prelude.{◌≡◌};
 ghost use Rattle.driven.specs.Account.{Reported, account};
 ghost use Rattle.text.specs.Written.{written};

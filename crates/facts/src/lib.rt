@@ -1,4 +1,6 @@
 //! The worked examples of the kit: each makes its calls, and its contract says what they come to.
+#![tactic(auto)]
+
 ghost use Rattle.facts.specs.Examples.{Shown};
 
 mod maps;

@@ -1,4 +1,6 @@
 //! The checker as a host in C calls it.
+#![tactic(auto)]
+
 ghost use Rattle.std.specs.Prelude.{◌≡◌, ℕ, ◌<◌, ◌≤◌, length, slice_index};
 ghost use Rattle.map.specs.View.{contend, nodes};
 ghost use Rattle.schedule.specs.Sharing.{Checked};

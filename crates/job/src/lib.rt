@@ -1,4 +1,6 @@
 //! Running a job: its events on a rig, and the listing of what came of them.
+#![tactic(auto)]
+
 mod counting;
 mod listing;
 mod playing;

@@ -1,4 +1,6 @@
 //! Calls of a rig and their answers, and the law that every run of calls keeps.
+#![tactic(auto)]
+
 use refusal::Refusal;
 use rig::Lottery;
 

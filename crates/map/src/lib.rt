@@ -2,6 +2,8 @@
 //!
 //! Every map has only mutual links between two different nodes below its count. The type keeps
 //! that, so no function here asks anything of its caller.
+#![tactic(auto)]
+
 ghost use Rattle.std.specs.Prelude.{◌≡◌, ◌≤◌, length};
 ghost use Rattle.map.specs.Rows.{Apart, Mutual, Within};
 

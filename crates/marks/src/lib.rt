@@ -1,6 +1,8 @@
 //! A set of marks, numbered from 0 to 63, in one word.
 //!
 //! A mark stands for a node, or for a slot: mark `s - 1` for slot `s`.
+#![tactic(auto)]
+
 ghost use Rattle.std.specs.Prelude.{◌≡◌, ℕ, false, not, ◌&&◌, ◌||◌, ◌==◌, nat_eq, nat_lt};
 ghost use Rattle.marks.specs.Sets.{FirstMissing, Same, added, joined, none, removed};
 ghost use Rattle.marks.specs.View.{marked, size};

@@ -2,6 +2,8 @@
 //!
 //! A radio may lose, repeat and reorder. The trait says by a radio's own rule what each call does to
 //! its state, and by the air rule what no radio does: make up a message.
+#![tactic(auto)]
+
 mod air;
 mod coin;
 mod interface;

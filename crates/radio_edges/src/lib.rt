@@ -1,3 +1,5 @@
 //! Tests of the radios at their edges, and of a radio that loses everything.
+#![tactic(auto)]
+
 #[cfg(test)]
 mod tests;

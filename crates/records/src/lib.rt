@@ -1,4 +1,6 @@
 //! Jobs: records of eight bytes, read one after another, and the map that they describe.
+#![tactic(auto)]
+
 mod building;
 mod fields;
 mod reading;

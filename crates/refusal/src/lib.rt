@@ -1,4 +1,6 @@
 //! Why a call of the kit says no: one enum, with a number and a word for each case.
+#![tactic(auto)]
+
 ghost use Rattle.std.specs.Prelude.{◌≡◌};
 ghost use Rattle.refusal.specs.Entry.{entry};
 

@@ -1,5 +1,7 @@
 //! The report on a job: its map node by node with the slots planned for it, or why the job is
 //! refused.
+#![tactic(auto)]
+
 ghost use Rattle.std.specs.Prelude.{◌≡◌, ◌++◌};
 ghost use Rattle.report.specs.Overview.{Reported, overview};
 ghost use Rattle.text.specs.Written.{written};

@@ -1,4 +1,6 @@
 //! The rig: every node of a bench runs the protocol, over any radio.
+#![tactic(auto)]
+
 ghost use Rattle.std.specs.Prelude.{◌≡◌, length};
 ghost use Rattle.rig.specs.Calm.{Calm};
 

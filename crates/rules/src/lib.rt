@@ -1,4 +1,6 @@
 //! The two clash rules: nodes of a map that contend, and links that are close.
+#![tactic(auto)]
+
 mod link;
 mod node;
 

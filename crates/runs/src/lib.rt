@@ -1,4 +1,6 @@
 //! Performing calls of a rig, one or a whole list, and what the slot law says of a rig.
+#![tactic(auto)]
+
 mod auditing;
 mod making;
 mod performing;

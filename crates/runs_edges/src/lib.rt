@@ -1,3 +1,5 @@
 //! Tests of lists of calls.
+#![tactic(auto)]
+
 #[cfg(test)]
 mod tests;

@@ -1,4 +1,6 @@
 //! Slots for items that clash: the rule of what clashes, one planner and one checker for every rule.
+#![tactic(auto)]
+
 mod checking;
 mod planning;
 mod rule;

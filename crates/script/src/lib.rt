@@ -1,4 +1,6 @@
 //! What a job says: the map, the seed and the events that its records describe.
+#![tactic(auto)]
+
 use map::Map;
 
 mod events;

@@ -1,4 +1,6 @@
 //! Reads a job of N and L records from standard input, and prints the report on its drive.
+#![tactic(auto)]
+
 use driven::report;
 use records::MOST_BYTES;
 use std::io;

@@ -1,4 +1,6 @@
 //! Reads a job from standard input, runs it, and prints its listing, or why it is refused.
+#![tactic(auto)]
+
 use job::print;
 use records::MOST_BYTES;
 use std::io;

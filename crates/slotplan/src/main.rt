@@ -1,4 +1,6 @@
 //! Reads a job of N and L records from standard input, and prints the report on it.
+#![tactic(auto)]
+
 use records::MOST_BYTES;
 use report::report;
 use std::io;

@@ -1,4 +1,6 @@
 //! Text in a space of fixed size, written from its start: words, numbers and line ends.
+#![tactic(auto)]
+
 ghost use Rattle.std.specs.Prelude.{◌≡◌, ◌≤◌, length};
 
 mod writing;
