@@ -99,7 +99,10 @@ impl PartialEq for Marks {
 
     ghost laws = { Prim.search (comparing, rules) };
 
-    fn eq(&self, other: &Marks) -> bool {
+    fn eq(&self, other: &Marks) -> bool
+        ensures eq { result ≡ on (λ v. v.bits) nat_eq self.now other.now }
+        ensures same { Same self.now other.now result }
+    {
         self.bits == other.bits
     }
 }

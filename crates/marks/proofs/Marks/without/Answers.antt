@@ -4,13 +4,10 @@ use Rattle.marks.proofs.Digits.{bit_below, bit_without, without_lt}
 use Rattle.marks.proofs.Sets.{is_collect, and_not_none}
 use Rattle.marks.proofs.Marks.without.Goals as goal
 
-below : (c : goal.Then-has) → c.args.i < 64
-below c =
+pub overflow_shl-result : goal.overflow_shl-result
+overflow_shl-result c =
     let h : c.args.self.bits < 2 ^ 64 = omega arith in
     bit_below c.args.self.bits 64 c.args.i h (sym c.if-has.ensures)
-
-pub overflow-shl-result : goal.overflow-shl-result
-overflow-shl-result c = below c
 
 pub returns-then-has : goal.returns-then-has
 returns-then-has c =

@@ -5,8 +5,8 @@ use Rattle.marks.specs.declared.Marks.{Marks}
 use Rattle.marks.proofs.Sets.{same-marks}
 use Rattle.marks.proofs.MarksPartialEq.eq.Goals as goal
 
-pub returns : goal.returns
-returns c =
+pub returns-clause-same : goal.returns-clause-same
+returns-clause-same c =
     let a = c.args.self.now in
     let b = c.args.other.now in
     let h : a.bits < 2 ^ 64 = omega arith in
