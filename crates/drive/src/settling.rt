@@ -29,7 +29,7 @@ fn settle<R: Radio>(rig: &mut Rig, radio: &mut R, a: u8) -> u32
     requires inside { a < nodes rig.old.map }
     requires undecided { (at rig.old.nodes a).slot ≡ 0 }
     ensures map { rig.new.map ≡ rig.old.map }
-    ensures settling { Settling ways rig.old.map a rig.old.nodes rig.new.nodes (state radio.old) (state radio.new) result }
+    ensures settling { Settling R.ways rig.old.map a rig.old.nodes rig.new.nodes (R.state radio.old) (R.state radio.new) result }
 {
     let _ = rig.draw(a, 1, radio);
     let mut came = 0;
@@ -46,7 +46,7 @@ pub(crate) fn settle_in_order<R: Radio>(rig: &mut Rig, radio: &mut R, order: &[u
     requires empty { R.Radio.ways.air (R.Radio.state radio.old) ≡ [] }
     requires fine { Fine (nodes rig.old.map) order.now }
     ensures map { rig.new.map ≡ rig.old.map }
-    ensures settled { Settled ways rig.old.map order.now rig.new.nodes (state radio.new) result }
+    ensures settled { Settled R.ways rig.old.map order.now rig.new.nodes (R.state radio.new) result }
     ensures law { SlotLaw rig.old.map order.now rig.new.nodes }
 {
     let mut count = 0;

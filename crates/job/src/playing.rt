@@ -30,8 +30,8 @@ impl Play {
     fn call<R: Radio>(&mut self, radio: &mut R, call: Call) -> Answer
         requires { self.old.came + self.old.refused < 1000000000 }
         ensures map { self.new.rig.map ≡ self.old.rig.map }
-        ensures after { stand self.new (state radio.new) ≡ called ways self.old.rig.map (stand self.old (state radio.old)) call }
-        ensures value { result ≡ answered ways self.old.rig.map (stand self.old (state radio.old)) call }
+        ensures after { stand self.new (R.state radio.new) ≡ called R.ways self.old.rig.map (stand self.old (R.state radio.old)) call }
+        ensures value { result ≡ answered R.ways self.old.rig.map (stand self.old (R.state radio.old)) call }
         ensures counts { self.new.came + self.new.refused ≤ self.old.came + self.old.refused + 1 }
     {
         let answer = make(&mut self.rig, radio, call);
@@ -44,7 +44,7 @@ impl Play {
     fn deliver<R: Radio>(&mut self, radio: &mut R, times: u32)
         requires { self.old.came + self.old.refused + times < 1000000000 }
         ensures map { self.new.rig.map ≡ self.old.rig.map }
-        ensures after { stand self.new (state radio.new) ≡ up_to ways self.old.rig.map times (stand self.old (state radio.old)) }
+        ensures after { stand self.new (R.state radio.new) ≡ up_to R.ways self.old.rig.map times (stand self.old (R.state radio.old)) }
         ensures counts { self.new.came + self.new.refused ≤ self.old.came + self.old.refused + times }
     {
         for _turn in 0..times {
@@ -59,7 +59,7 @@ impl Play {
         requires small { Small event }
         requires room { self.old.came + self.old.refused < 100000000 }
         ensures map { self.new.rig.map ≡ self.old.rig.map }
-        ensures after { stand self.new (state radio.new) ≡ played ways self.old.rig.map event (stand self.old (state radio.old)) }
+        ensures after { stand self.new (R.state radio.new) ≡ played R.ways self.old.rig.map event (stand self.old (R.state radio.old)) }
         ensures counts { self.new.came + self.new.refused ≤ self.old.came + self.old.refused + 4096 }
     {
         match event {
@@ -77,7 +77,7 @@ impl Play {
     fn take<R: Radio>(&mut self, radio: &mut R, bytes: &[u8])
         requires { self.old.came + self.old.refused < 100000000 }
         ensures map { self.new.rig.map ≡ self.old.rig.map }
-        ensures after { stand self.new (state radio.new) ≡ plays ways self.old.rig.map (option_to_list (event_of (taken bytes.now))) (stand self.old (state radio.old)) }
+        ensures after { stand self.new (R.state radio.new) ≡ plays R.ways self.old.rig.map (option_to_list (event_of (taken bytes.now))) (stand self.old (R.state radio.old)) }
         ensures counts { self.new.came + self.new.refused ≤ self.old.came + self.old.refused + 4096 }
     {
         if let Some(event) = Event::from_record(bytes) {
@@ -90,7 +90,7 @@ impl Play {
 pub(crate) fn play_all<R: Radio>(map: &Map, radio: &mut R, job: &[u8]) -> Play
     requires { records job.now ≤ 4096 }
     ensures map { result.rig.map ≡ map.now }
-    ensures after { stand result (state radio.new) ≡ plays ways map.now (events job.now) (fresh (state radio.old)) }
+    ensures after { stand result (R.state radio.new) ≡ plays R.ways map.now (events job.now) (fresh (R.state radio.old)) }
     ensures counts { result.came + result.refused ≤ 16777216 }
 {
     let mut rig = Rig::new();

@@ -18,8 +18,8 @@ use text::Text;
 fn play_and_list<R: Radio>(map: &Map, radio: &mut R, job: &[u8]) -> Text
     requires few { records job.now ≤ 4096 }
     requires empty { R.Radio.ways.air (R.Radio.state radio.old) ≡ [] }
-    ensures law { PlaysOut ways map.now (events job.now) (plays ways map.now (events job.now) (fresh (state radio.old))) }
-    ensures text { written result ≡ listing map.now (plays ways map.now (events job.now) (fresh (state radio.old))) }
+    ensures law { PlaysOut R.ways map.now (events job.now) (plays R.ways map.now (events job.now) (fresh (R.state radio.old))) }
+    ensures text { written result ≡ listing map.now (plays R.ways map.now (events job.now) (fresh (R.state radio.old))) }
 {
     let play = play_all(map, radio, job);
     list(&play)

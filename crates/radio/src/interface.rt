@@ -37,8 +37,8 @@ pub trait Radio {
 /// Puts a list of messages in, in its order. Each message in the air is then one that was there
 /// before or one of the list.
 pub fn put_all<R: Radio>(radio: &mut R, messages: &[Message])
-    ensures after { state radio.new ≡ puts ways (state radio.old) messages.now }
-    ensures air { OldOrPut ways (state radio.old) messages.now }
+    ensures after { R.state radio.new ≡ puts R.ways (R.state radio.old) messages.now }
+    ensures air { OldOrPut R.ways (R.state radio.old) messages.now }
 {
     for message in messages {
         radio.put(*message);

@@ -52,7 +52,7 @@ impl Rig {
         requires inside { k < nodes self.old.map }
         requires room { (at self.old.nodes k).round < 65535 }
         requires undecided { (at self.old.nodes k).slot ≡ 0 }
-        ensures made { Made ways self.old self.new (state radio.old) (state radio.new) (won self.old.map self.old.nodes k).board (won self.old.map self.old.nodes k).sent }
+        ensures made { Made R.ways self.old self.new (R.state radio.old) (R.state radio.new) (won self.old.map self.old.nodes k).board (won self.old.map self.old.nodes k).sent }
         ensures value { result ≡ (won self.old.map self.old.nodes k).answer }
     {
         let mut node = self.nodes[k as usize];
@@ -77,9 +77,9 @@ impl Rig {
     /// Refuses `Node` for no node, then `Settled` if it has decided, `Busy` in request or grant, and
     /// `Spent` at round 65,535.
     pub fn draw<R: Radio>(&mut self, k: u8, v: u32, radio: &mut R) -> Result<Lottery, Refusal>
-        ensures made { Made ways self.old self.new (state radio.old) (state radio.new) (drawn self.old.map self.old.nodes k v).board (drawn self.old.map self.old.nodes k v).sent }
+        ensures made { Made R.ways self.old self.new (R.state radio.old) (R.state radio.new) (drawn self.old.map self.old.nodes k v).board (drawn self.old.map self.old.nodes k v).sent }
         ensures value { result ≡ (drawn self.old.map self.old.nodes k v).answer }
-        ensures lawful { Lawful self.old.nodes self.new.nodes (state radio.old) (state radio.new) k result }
+        ensures lawful { Lawful self.old.nodes self.new.nodes (R.state radio.old) (R.state radio.new) k result }
     {
         if k >= self.map.count() {
             return Err(Refusal::Node);
@@ -105,7 +105,7 @@ impl Rig {
     // Asks again those that have not granted; how many.
     fn ask_again<R: Radio>(&self, k: u8, radio: &mut R) -> u8
         requires { k < nodes self.now.map }
-        ensures radio { state radio.new ≡ puts ways (state radio.old) (asked_again self.now.map self.now.nodes k) }
+        ensures radio { R.state radio.new ≡ puts R.ways (R.state radio.old) (asked_again self.now.map self.now.nodes k) }
         ensures value { result ≡ length (asked_again self.now.map self.now.nodes k) }
     {
         let node = self.nodes[k as usize];
@@ -125,9 +125,9 @@ impl Rig {
     ///
     /// Refuses `Node` for no node, then `Quiet` in idle or release.
     pub fn nudge<R: Radio>(&self, k: u8, radio: &mut R) -> Result<u8, Refusal>
-        ensures radio { state radio.new ≡ puts ways (state radio.old) (nudged self.now.map self.now.nodes k).sent }
+        ensures radio { R.state radio.new ≡ puts R.ways (R.state radio.old) (nudged self.now.map self.now.nodes k).sent }
         ensures value { result ≡ (nudged self.now.map self.now.nodes k).answer }
-        ensures lawful { Lawful self.now.nodes self.now.nodes (state radio.old) (state radio.new) k result }
+        ensures lawful { Lawful self.now.nodes self.now.nodes (R.state radio.old) (R.state radio.new) k result }
     {
         if k >= self.map.count() {
             return Err(Refusal::Node);

@@ -34,7 +34,7 @@ fn serves_in(node: Node, holder: u8, term: u16) -> bool
 impl Rig {
     fn on_request<R: Radio>(&mut self, x: Message, radio: &mut R)
         requires { x.receiver < nodes self.old.map }
-        ensures { Made ways self.old self.new (state radio.old) (state radio.new) (on_request self.old.map self.old.nodes x (at self.old.nodes x.receiver).phase).board (on_request self.old.map self.old.nodes x (at self.old.nodes x.receiver).phase).sent }
+        ensures { Made R.ways self.old self.new (R.state radio.old) (R.state radio.new) (on_request self.old.map self.old.nodes x (at self.old.nodes x.receiver).phase).board (on_request self.old.map self.old.nodes x (at self.old.nodes x.receiver).phase).sent }
     {
         let node = self.nodes[x.receiver as usize];
         match node.phase {
@@ -73,7 +73,7 @@ impl Rig {
 
     fn on_grant<R: Radio>(&mut self, x: Message, radio: &mut R)
         requires { x.receiver < nodes self.old.map }
-        ensures { Made ways self.old self.new (state radio.old) (state radio.new) (on_grant self.old.map self.old.nodes x).board (on_grant self.old.map self.old.nodes x).sent }
+        ensures { Made R.ways self.old self.new (R.state radio.old) (R.state radio.new) (on_grant self.old.map self.old.nodes x).board (on_grant self.old.map self.old.nodes x).sent }
     {
         let node = self.nodes[x.receiver as usize];
         if waits_in(node, x.round) {
@@ -93,7 +93,7 @@ impl Rig {
 
     fn on_reject<R: Radio>(&mut self, x: Message, radio: &mut R)
         requires { x.receiver < nodes self.old.map }
-        ensures { Made ways self.old self.new (state radio.old) (state radio.new) (on_reject self.old.map self.old.nodes x).board (on_reject self.old.map self.old.nodes x).sent }
+        ensures { Made R.ways self.old self.new (R.state radio.old) (R.state radio.new) (on_reject self.old.map self.old.nodes x).board (on_reject self.old.map self.old.nodes x).sent }
     {
         if waits_in(self.nodes[x.receiver as usize], x.round) {
             self.give_up(x.receiver, radio);
@@ -139,7 +139,7 @@ impl Rig {
     }
 
     fn receive<R: Radio>(&mut self, x: Message, radio: &mut R) -> Result<u8, Refusal>
-        ensures made { Made ways self.old self.new (state radio.old) (state radio.new) (received self.old.map self.old.nodes x).board (received self.old.map self.old.nodes x).sent }
+        ensures made { Made R.ways self.old self.new (R.state radio.old) (R.state radio.new) (received self.old.map self.old.nodes x).board (received self.old.map self.old.nodes x).sent }
         ensures value { result ≡ (received self.old.map self.old.nodes x).answer }
     {
         if self.is_foreign(x) {
@@ -164,9 +164,9 @@ impl Rig {
     /// Refuses `Foreign` if the kind is not 1 to 5, the ends are no neighbours, or it is a release of
     /// a slot not 1 to 64; the message has been taken then, and the rig stays.
     pub fn deliver<R: Radio>(&mut self, radio: &mut R) -> Result<u8, Refusal>
-        ensures made { Made ways self.old self.new (ways.after_take (state radio.old)) (state radio.new) (delivered self.old.map self.old.nodes (ways.taken (state radio.old))).board (delivered self.old.map self.old.nodes (ways.taken (state radio.old))).sent }
-        ensures value { result ≡ (delivered self.old.map self.old.nodes (ways.taken (state radio.old))).answer }
-        ensures lawful { LawfulDelivery self.old.nodes self.new.nodes (ways.after_take (state radio.old)) (state radio.new) (ways.taken (state radio.old)) result }
+        ensures made { Made R.ways self.old self.new (R.ways.after_take (R.state radio.old)) (R.state radio.new) (delivered self.old.map self.old.nodes (R.ways.taken (R.state radio.old))).board (delivered self.old.map self.old.nodes (R.ways.taken (R.state radio.old))).sent }
+        ensures value { result ≡ (delivered self.old.map self.old.nodes (R.ways.taken (R.state radio.old))).answer }
+        ensures lawful { LawfulDelivery self.old.nodes self.new.nodes (R.ways.after_take (R.state radio.old)) (R.state radio.new) (R.ways.taken (R.state radio.old)) result }
     {
         match radio.take() {
             Some(x) => self.receive(x, radio),

@@ -19,7 +19,7 @@ pub(crate) fn send<R: Radio>(
     sender: u8,
     receiver: u8,
 )
-    ensures { state radio.new ≡ ways.after_put (state radio.old) (plain kind round slot sender receiver) }
+    ensures { R.state radio.new ≡ R.ways.after_put (R.state radio.old) (plain kind round slot sender receiver) }
 {
     let slots = Marks::empty();
     radio.put(Message {
@@ -45,7 +45,7 @@ fn offer(node: Node) -> Marks
 
 // A node's grant.
 pub(crate) fn send_grant<R: Radio>(radio: &mut R, node: Node, round: u16, sender: u8, receiver: u8)
-    ensures { state radio.new ≡ ways.after_put (state radio.old) (grant (offered node) round sender receiver) }
+    ensures { R.state radio.new ≡ R.ways.after_put (R.state radio.old) (grant (offered node) round sender receiver) }
 {
     let slots = offer(node);
     radio.put(Message {
@@ -67,7 +67,7 @@ pub(crate) fn send_to_all<R: Radio>(
     slot: u8,
     sender: u8,
 )
-    ensures { state radio.new ≡ puts ways (state radio.old) (each (linked map.now sender) (plain kind round slot sender) (nodes map.now)) }
+    ensures { R.state radio.new ≡ puts R.ways (R.state radio.old) (each (linked map.now sender) (plain kind round slot sender) (nodes map.now)) }
 {
     for j in 0..map.count() {
         if map.linked(sender, j) {

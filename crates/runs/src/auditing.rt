@@ -14,8 +14,8 @@ use schedule::{Verdict, check};
 /// The contract holds the slot law: whatever run of calls led to this rig and this radio, on whatever
 /// map, its slots are RAND's for the order of deciding, and the verdict is that they are accepted.
 pub fn audit<R: Radio>(rig: &Rig, radio: &R) -> Result<Verdict, Refusal>
-    ensures audited { Audited ways rig.now.map rig.now.nodes (state radio.now) result }
-    ensures law { Lawful ways rig.now.map rig.now.nodes (state radio.now) }
+    ensures audited { Audited R.ways rig.now.map rig.now.nodes (R.state radio.now) result }
+    ensures law { Lawful R.ways rig.now.map rig.now.nodes (R.state radio.now) }
 {
     let map = rig.map();
     let slots = rig.slots();

@@ -10,9 +10,9 @@ use rig::Rig;
 /// Makes one call of a rig, over a radio.
 pub fn make<R: Radio>(rig: &mut Rig, radio: &mut R, call: Call) -> Answer
     ensures map { rig.new.map ≡ rig.old.map }
-    ensures nodes { rig.new.nodes ≡ nodes_after ways rig.old.map rig.old.nodes (state radio.old) call }
-    ensures radio { state radio.new ≡ radio_after ways rig.old.map rig.old.nodes (state radio.old) call }
-    ensures value { result ≡ answer_of ways rig.old.map rig.old.nodes (state radio.old) call }
+    ensures nodes { rig.new.nodes ≡ nodes_after R.ways rig.old.map rig.old.nodes (R.state radio.old) call }
+    ensures radio { R.state radio.new ≡ radio_after R.ways rig.old.map rig.old.nodes (R.state radio.old) call }
+    ensures value { result ≡ answer_of R.ways rig.old.map rig.old.nodes (R.state radio.old) call }
     ensures single { (j k : ℕ) → Decides rig.old.nodes rig.new.nodes j → Decides rig.old.nodes rig.new.nodes k → j ≡ k }
 {
     match call {

@@ -65,7 +65,7 @@ pub fn perform<R: Radio>(
     answers: &mut [Answer],
     order: &mut [u8],
 ) -> Result<Performed, Refusal>
-    ensures { Performs ways map.now calls.now (state radio.old) (state radio.new) answers.old answers.new order.old order.new result }
+    ensures { Performs R.ways map.now calls.now (R.state radio.old) (R.state radio.new) answers.old answers.new order.old order.new result }
 {
     if answers.len() < calls.len() || order.len() < calls.len() {
         return Err(Refusal::Short);

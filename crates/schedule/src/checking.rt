@@ -20,7 +20,7 @@ pub enum Verdict {
 fn partner<C: ClashRule>(rule: &C, slots: &[u16], count: usize, a: usize) -> Option<usize>
     requires inside { a < count }
     requires long { count ≤ length slots.now }
-    ensures { Partner (clash rule.now) count slots.now a result }
+    ensures { Partner (C.clash rule.now) count slots.now a result }
 {
     let slot = slots[a];
     if slot == 0 {
@@ -39,7 +39,7 @@ fn partner<C: ClashRule>(rule: &C, slots: &[u16], count: usize, a: usize) -> Opt
 ///
 /// Refuses `Short` if the table is shorter than the items.
 pub fn check<C: ClashRule>(rule: &C, slots: &[u16]) -> Result<Verdict, Refusal>
-    ensures { Checked (clash rule.now) (items rule.now) slots.now result }
+    ensures { Checked (C.clash rule.now) (C.items rule.now) slots.now result }
 {
     let count = bounded(rule);
     if slots.len() < count {

@@ -10,7 +10,7 @@ use refusal::Refusal;
 // Whether an item that clashes with `a` holds the slot.
 fn held<C: ClashRule>(rule: &C, slots: &[u16], count: usize, a: usize, slot: u16) -> bool
     requires { count ≤ length slots.now }
-    ensures { result ≡ holds (clash rule.now) count (entries slots.now) a slot }
+    ensures { result ≡ holds (C.clash rule.now) count (entries slots.now) a slot }
 {
     for b in 0..count {
         if slots[b] == slot && rule.clashes(a, b) {
@@ -24,8 +24,8 @@ fn held<C: ClashRule>(rule: &C, slots: &[u16], count: usize, a: usize, slot: u16
 // items can all be held, and then the next one is free.
 fn lowest<C: ClashRule>(rule: &C, slots: &[u16], count: usize, a: usize) -> u16
     requires long { count ≤ length slots.now }
-    requires few { (count ≤ most) × (most ≤ 512) }
-    ensures { result ≡ least (clash rule.now) count (entries slots.now) a }
+    requires few { (count ≤ C.most) × (C.most ≤ 512) }
+    ensures { result ≡ least (C.clash rule.now) count (entries slots.now) a }
 {
     let last = C::limit() as u16 + 1;
     for slot in 1..last {
@@ -82,8 +82,8 @@ fn clear(slots: &mut [u16], count: usize)
 /// Refuses `Short` if the table is shorter than the items; then, entry by entry of the order,
 /// `Node` if it is no item and `Twice` if the order has named it before. The table stays then.
 pub fn plan<C: ClashRule>(rule: &C, order: &[u16], slots: &mut [u16]) -> Result<(), Refusal>
-    ensures after { Planned (clash rule.now) (items rule.now) order.now slots.old slots.new result }
-    ensures sound { Sound (clash rule.now) (items rule.now) order.now slots.new result }
+    ensures after { Planned (C.clash rule.now) (C.items rule.now) order.now slots.old slots.new result }
+    ensures sound { Sound (C.clash rule.now) (C.items rule.now) order.now slots.new result }
 {
     let count = bounded(rule);
     if slots.len() < count {

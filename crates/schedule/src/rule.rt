@@ -34,8 +34,8 @@ pub trait ClashRule {
 
 // The number of items, which the rule's limit bounds.
 pub(crate) fn bounded<C: ClashRule>(rule: &C) -> usize
-    ensures value { result ≡ items rule.now }
-    ensures bound { (result ≤ most) × (result ≤ 512) }
+    ensures value { result ≡ C.items rule.now }
+    ensures bound { (result ≤ C.most) × (result ≤ 512) }
 {
     rule.count().min(C::limit())
 }

@@ -4,7 +4,7 @@ ghost use Rattle.radio.specs.Coin.{CoinState, coin_ways, seeded, stepped, loses,
 ghost use Rattle.radio.specs.Waiting.{waiting, entered};
 ghost use Rattle.std.proofs.Common.{inl};
 ghost use Rattle.radio.specs.Ways.{In};
-ghost use Rattle.radio.specs.Places.{entered-in, removed-in, nth_in};
+ghost use Rattle.radio.specs.Places.{entered_in, removed_in, nth_in};
 ghost use Rattle.std.specs.List.{remove};
 ghost use Rattle.radio.specs.Coin;
 
@@ -43,11 +43,11 @@ impl Radio for CoinRadio {
     ghost ways = { coin_ways };
 
     ghost put_air = { λ s m x h.
-        let go : (b : Bool) → In x (if b then s.waits else entered s.waits m) → In x s.waits ⊎ (x ≡ m) = elim [ true ↦ λ i. inl i | false ↦ λ i. entered-in s.waits m x i ] in
+        let go : (b : Bool) → In x (if b then s.waits else entered s.waits m) → In x s.waits ⊎ (x ≡ m) = elim [ true ↦ λ i. inl i | false ↦ λ i. entered_in s.waits m x i ] in
         go (loses (stepped s.value)) h };
 
     ghost take_air = { λ s x h.
-        let left : (b : Bool) → In x (if b then s.waits else remove s.waits (Coin.place s)) → In x s.waits = elim [ true ↦ λ i. i | false ↦ λ i. removed-in s.waits (Coin.place s) x i ] in
+        let left : (b : Bool) → In x (if b then s.waits else remove s.waits (Coin.place s)) → In x s.waits = elim [ true ↦ λ i. i | false ↦ λ i. removed_in s.waits (Coin.place s) x i ] in
         let go : (b : Bool) → In x (if b then s else (record { value = stepped s.value; waits = (if stays (stepped s.value) then s.waits else remove s.waits (Coin.place s)) })).waits → In x s.waits = elim [ true ↦ λ i. i | false ↦ λ i. left (stays (stepped s.value)) i ] in
         go (length s.waits == 0) h };
 

@@ -3,7 +3,7 @@ ghost use Rattle.std.specs.Prelude.{◌≡◌, List, []};
 ghost use Rattle.radio.specs.Queue.{queue_ways};
 ghost use Rattle.radio.specs.Waiting.{waiting};
 ghost use Rattle.radio.specs.declared.message.Message.{Message};
-ghost use Rattle.radio.specs.Places.{entered-in, removed-in, nth_in};
+ghost use Rattle.radio.specs.Places.{entered_in, removed_in, nth_in};
 
 use super::RackQueue;
 use crate::air::Air;
@@ -25,9 +25,9 @@ impl Radio for RackQueue {
 
     ghost ways = { queue_ways };
 
-    ghost put_air = { entered-in };
+    ghost put_air = { entered_in };
 
-    ghost take_air = { λ s x. removed-in s 0 x };
+    ghost take_air = { λ s x. removed_in s 0 x };
 
     ghost taken_air = { λ s x. nth_in s 0 x };
 

@@ -40,28 +40,21 @@ module _ (c : After-with-2) where
       ∙ ap (λ (x : Bool). has (set c.args.self.now.rows c.args.a c.with.result) c.args.b j || (x && eqb j c.args.a))
       (lt-ltb c.args.a 64 (omega arith))
 
-pub invariant-of-self : goal.invariant-of-self
-invariant-of-self c =
+pub invariant_of-self : goal.invariant_of-self
+invariant_of-self c =
     let m = c.args.self.now in
     let a = c.args.a in
     let b = c.args.b in
     let ra = c.with.result in
-    let rb = c.with-2.result in (
-      m.least,
-      (
-        m.most,
-        (
-          simp length-set m.full,
-          (
-            still_mutual m.rows a b ra rb (a_row c) (b_row c) (differ c) (at_a c) (at_b c) m.both,
-            (
-              still_apart m.rows a b ra rb (a_row c) (b_row c) (differ c) (at_a c) (at_b c) m.apart,
-              (still_within m.rows a b ra rb (a_row c) (b_row c) (differ c) (at_a c) (at_b c) m.count (a_in c) (b_in c) m.within, tt),
-            ),
-          ),
-        ),
-      ),
-    )
+    let rb = c.with-2.result in
+    record {
+      least = m.least;
+      most = m.most;
+      full = simp length-set m.full;
+      both = still_mutual m.rows a b ra rb (a_row c) (b_row c) (differ c) (at_a c) (at_b c) m.both;
+      apart = still_apart m.rows a b ra rb (a_row c) (b_row c) (differ c) (at_a c) (at_b c) m.apart;
+      within = still_within m.rows a b ra rb (a_row c) (b_row c) (differ c) (at_a c) (at_b c) m.count (a_in c) (b_in c) m.within;
+    }
 
 allowed : (m a b : ℕ) → a < m → b < m → a ≢ b → ◌≡◌ {A = Result (Unit {0}) Refusal} (Ok tt) (linking m a b)
 allowed m a b p q n = rw (lt-ltb a m p, lt-ltb b m q, ne_eqb a b n) refl

@@ -5,8 +5,8 @@ use Rattle.map.specs.View.{degree, link_count, nodes}
 use Rattle.map.proofs.Counts.{twice_links, degree_le}
 use Rattle.map.proofs.Map.links.Goals as goal
 
-pub overflow-add-ends : goal.overflow-add-ends
-overflow-add-ends c = let m = c.args.self.now.most in omega (arith, c.loop-n.invariant.1)
+pub overflow_add-ends : goal.overflow_add-ends
+overflow_add-ends c = let m = c.args.self.now.most in omega (arith, c.loop-n.invariant.1)
 
 pub loop-n-init : goal.loop-n-init
 unfolding sum_below

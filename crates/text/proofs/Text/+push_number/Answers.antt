@@ -11,6 +11,6 @@ returns t c =
     = λ m e. c.push.ensures ∙ ap (λ (x : Text). clip (written x ++ ((48 + c.args.n % 10) ∷ []))) e in
     elim c.if-n-ge10.branch [
       | then-n-ge10 w ↦
-          digit_last (written c.args.self.now) (written w.push-number.new.self) (written c.push.new.self) c.args.n w.if-n-ge10.true (omega arith) w.push-number.ensures (on _ w.self-is)
+          digit_last (written c.args.self.now) (written w.push_number.new.self) (written c.push.new.self) c.args.n w.if-n-ge10.true (omega arith) w.push_number.ensures (on _ w.self-is)
       | else-n-ge10 w ↦ digit_only (written c.args.self.now) (written c.push.new.self) c.args.n w.if-n-ge10.false (on _ w.self-is)
     ]

@@ -5,5 +5,5 @@ use Rattle.text.proofs.Text.end_line.Goals as goal
 
 pub returns : goal.returns
 returns c =
-    and_then (written c.args.self.now) (written c.push-numbers.new.self) (written c.push.new.self) (spaced c.args.numbers.now) (10 ∷ [])
-    c.push-numbers.ensures c.push.ensures
+    and_then (written c.args.self.now) (written c.push_numbers.new.self) (written c.push.new.self) (spaced c.args.numbers.now) (10 ∷ [])
+    c.push_numbers.ensures c.push.ensures

@@ -9,8 +9,8 @@ loop-n-init c = none_yet (written c.args.self.now) (simp length-take (omega arit
 
 pub loop-n-preserved : goal.loop-n-preserved
 loop-n-preserved c =
-    number_more (written c.args.self.now) (written c.loop-n.self) (written c.push.new.self) (written c.push-number.new.self) c.args.numbers.now c.loop-n.n-index
-    c.loop-n-test.true c.loop-n.invariant c.push.ensures c.push-number.ensures
+    number_more (written c.args.self.now) (written c.loop-n.self) (written c.push.new.self) (written c.push_number.new.self) c.args.numbers.now c.loop-n.n-index
+    c.loop-n-test.true c.loop-n.invariant c.push.ensures c.push_number.ensures
 
 pub returns : goal.returns
 returns c =
