@@ -17,10 +17,10 @@ returns c =
     let slots = c.planned-slots.result in
     let v = c.check-verdict.result in
     let s = written c.new-text.result in
-    let mid = written c.push-rows.new.text in
-    let last = written c.push-totals.new.text in
+    let mid = written c.push_rows.new.text in
+    let last = written c.push_totals.new.text in
     let is : v ≡ Ok (Accepted (frame m)) = verdict_is m c.new.result.map.now slots v c.new.ensures.map c.planned-slots.ensures.slots c.planned-slots.ensures.accepted c.check-verdict.ensures in
     whole s last (overview m) c.new-text.ensures (overview_short m)
     (and_then s mid last (rows m (slot_of m) (nodes m)) (totals m (Ok (Accepted (frame m))))
-    (c.push-rows.ensures ∙ ap (λ (x : List ℕ). clip (s ++ x)) (rows_like m (entries slots) (slot_of m) (nodes m) c.planned-slots.ensures.slots))
-    (c.push-totals.ensures ∙ ap (λ (x : Result Verdict Refusal). clip (mid ++ totals m x)) is))
+    (c.push_rows.ensures ∙ ap (λ (x : List ℕ). clip (s ++ x)) (rows_like m (entries slots) (slot_of m) (nodes m) c.planned-slots.ensures.slots))
+    (c.push_totals.ensures ∙ ap (λ (x : Result Verdict Refusal). clip (mid ++ totals m x)) is))

@@ -11,26 +11,26 @@ use Rattle.drive.proofs.Driven.{drives-all}
 use Rattle.drive.proofs.Queue.{queue_sure}
 use Rattle.drive.proofs.driving.drive.Goals as goal
 
-pub settle-in-order-deliveries-requires : goal.settle-in-order-deliveries-requires
-settle-in-order-deliveries-requires c = record {
+pub settle_in_order-deliveries-requires : goal.settle_in_order-deliveries-requires
+settle_in_order-deliveries-requires c = record {
   sure = queue_sure;
   new = c.open.ensures.nodes;
   empty = c.new-queue.ensures;
-  fine = subst (λ (n : ℕ). Fine n c.args.order.now) (c.count-count.ensures ∙ ap nodes (sym c.open.ensures.map)) c.in-ok-judge.ensures.fine;
+  fine = subst (λ (n : ℕ). Fine n c.args.order.now) (c.count-count.ensures ∙ ap nodes (sym c.open.ensures.map)) c.in_ok-judge.ensures.fine;
 }
 
 pub returns : goal.returns
 returns c =
     let m = c.args.map.now in
     let order = c.args.order.now in
-    let rig = c.settle-in-order-deliveries.new.rig in
-    let s = waiting c.settle-in-order-deliveries.new.radio.air in
-    let n = c.settle-in-order-deliveries.result in
-    let came = c.settle-in-order-deliveries.ensures in
+    let rig = c.settle_in_order-deliveries.new.rig in
+    let s = waiting c.settle_in_order-deliveries.new.radio.air in
+    let n = c.settle_in_order-deliveries.result in
+    let came = c.settle_in_order-deliveries.ensures in
     let opened = c.open.ensures.map in
     let count : c.count-count.result ≡ nodes m = c.count-count.ensures in
     let same : nodes rig.map ≡ nodes m = ap nodes (came.map ∙ opened) in
-    let whole = subst (λ (k : ℕ). Whole k order) count c.in-ok-judge.ensures in (
+    let whole = subst (λ (k : ℕ). Whole k order) count c.in_ok-judge.ensures in (
       omega arith,
       whole,
       drives-all m order c.args.slots.now c.fill.new.table rig.nodes s n

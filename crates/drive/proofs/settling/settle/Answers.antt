@@ -23,8 +23,8 @@ loop-came-init g c =
     let first = drew r.ways (rule g) c.requires.sure c.args.rig.now.map a c.requires.inside c.args.rig.now.nodes (r.state c.args.radio.now) c.requires.resting c.requires.undecided rig.nodes s made.nodes made.radio in
     (refl, goes_first r.ways rig.map a rig.nodes s (subst (λ (m : Map). Busy r.ways m a (at rig.nodes a).round rig.nodes s) (sym made.map) first.busy))
 
-pub overflow-add-came : goal.overflow-add-came
-overflow-add-came g c =
+pub overflow_add-came : goal.overflow_add-came
+overflow_add-came g c =
     let rig = c.draw.new.self in
     let e = c.loop-came.invariant.1.sum in
     omega (arith, few-left rig.map c.args.a (at rig.nodes))
@@ -35,7 +35,7 @@ loop-came-preserved g c =
     let made = c.deliver.ensures.made in (
       made.map ∙ c.loop-came.invariant.0,
       on r.ways (rule g) c.requires.sure _ c.args.a (subst (λ (m : Map). c.args.a < nodes m) (sym c.draw.ensures.made.map) c.requires.inside) _ _ _ _ _ c.loop-came.invariant.1 _ c.loop-came.invariant.0
-          c.deliver.result _ _ c.deliver.ensures.value made.nodes made.radio (not_from_Decides c.is-nothing.result c.is-nothing.ensures c.loop-came-test.true),
+          c.deliver.result _ _ c.deliver.ensures.value made.nodes made.radio (not_from_Decides c.is_nothing.result c.is_nothing.ensures c.loop-came-test.true),
     )
 
 pub loop-came-smaller : goal.loop-came-smaller
@@ -58,5 +58,5 @@ returns g c =
     record {
       map = made.map ∙ c.loop-came.invariant.0 ∙ drawn.map;
       settling = off r.ways (rule g) c.requires.sure m a c.requires.inside _ _ _ _ _ going _ (c.loop-came.invariant.0 ∙ drawn.map)
-          c.deliver.result _ _ c.deliver.ensures.value made.nodes made.radio b s c.requires.resting.rests c.requires.undecided first (c.is-nothing.ensures.0 c.loop-came-test.false);
+          c.deliver.result _ _ c.deliver.ensures.value made.nodes made.radio b s c.requires.resting.rests c.requires.undecided first (c.is_nothing.ensures.0 c.loop-came-test.false);
     }

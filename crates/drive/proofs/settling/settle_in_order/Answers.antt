@@ -32,8 +32,8 @@ settle-count-requires g c =
       undecided = next_open r.ways (rule g) m order c.requires.fine i c.loop-node-test.true b s _ so_far;
     }
 
-pub overflow-add-count : goal.overflow-add-count
-overflow-add-count g c =
+pub overflow_add-count : goal.overflow_add-count
+overflow_add-count g c =
     let r = g.R.Radio in
     let few = few-came r.ways _ _ _ _ _ c.loop-node.invariant.1 in
     let e = c.settle-count.ensures.settling.thrice in

@@ -11,8 +11,8 @@ loop-n-init c =
 
 pub loop-n-preserved : goal.loop-n-preserved
 loop-n-preserved c =
-    rows_more (entries c.args.driven.now) (entries c.args.planned.now) (written c.args.text.now) (written c.loop-n.text) (written c.push-row.new.text) c.loop-n.n
-    c.loop-n.invariant c.push-row.ensures
+    rows_more (entries c.args.driven.now) (entries c.args.planned.now) (written c.args.text.now) (written c.loop-n.text) (written c.push_row.new.text) c.loop-n.n
+    c.loop-n.invariant c.push_row.ensures
 
 pub returns : goal.returns
 returns c =

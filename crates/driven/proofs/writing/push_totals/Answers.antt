@@ -10,11 +10,11 @@ returns c =
     let x = c.from-links.result in
     let y = c.args.deliveries in
     let v = verdict_text c.args.verdict in
-    let word = written c.push-str.new.self in
-    let numbers = written c.push-numbers.new.self in
-    let verdict = written c.push-verdict.new.text in
+    let word = written c.push_str.new.self in
+    let numbers = written c.push_numbers.new.self in
+    let verdict = written c.push_verdict.new.text in
     let last = written c.push.new.self in
-    and_then s word last (codes "total") (spaced (x ∷ (y ∷ [])) ++ (v ++ (10 ∷ []))) c.push-str.ensures
-    (and_then word numbers last (spaced (x ∷ (y ∷ []))) (v ++ (10 ∷ [])) c.push-numbers.ensures
-    (and_then numbers verdict last v (10 ∷ []) c.push-verdict.ensures c.push.ensures))
+    and_then s word last (codes "total") (spaced (x ∷ (y ∷ [])) ++ (v ++ (10 ∷ []))) c.push_str.ensures
+    (and_then word numbers last (spaced (x ∷ (y ∷ []))) (v ++ (10 ∷ [])) c.push_numbers.ensures
+    (and_then numbers verdict last v (10 ∷ []) c.push_verdict.ensures c.push.ensures))
     ∙ ap (λ (p : ℕ). clip (s ++ (codes "total" ++ (spaced (p ∷ (y ∷ [])) ++ (v ++ (10 ∷ [])))))) (c.from-links.ensures ∙ c.links.ensures)

@@ -10,7 +10,7 @@ use Rattle.facts.proofs.rigs.both_request.Goals as goal
 
 pub returns : goal.returns
 returns c =
-    let r₀ = c.rig-on-path-rig.result in
+    let r₀ = c.rig_on_path-rig.result in
     let r₁ = c.draw.new.self in
     let r₂ = c.draw-2.new.self in
     let r₃ = c.deliver.new.self in
@@ -20,7 +20,7 @@ returns c =
     let r₇ = c.deliver-5.new.self in
     let r₈ = c.deliver-6.new.self in
     let r₉ = c.deliver-7.new.self in
-    let s₀ : Stands (path 2) (two blank blank) [] r₀ _ = record { map = c.rig-on-path-rig.ensures.map; nodes = c.rig-on-path-rig.ensures.nodes; radio = c.new-queue.ensures } in
+    let s₀ : Stands (path 2) (two blank blank) [] r₀ _ = record { map = c.rig_on_path-rig.ensures.map; nodes = c.rig_on_path-rig.ensures.nodes; radio = c.new-queue.ensures } in
     let s₁ : Stands (path 2) (two asked blank) (request 1 0 1 ∷ []) r₁ _ = drew s₀ 0 1 (draws asked blank (request 1 0 1)) (draw_0 r₀.map) c.draw.ensures.made in
     let s₂ : Stands (path 2) (two asked asked) (request 1 0 1 ∷ request 1 1 0 ∷ []) r₂ _ = drew s₁ 1 1 (draws asked asked (request 1 1 0)) (draw_1 r₁.map) c.draw-2.ensures.made in
     let s₃ : Stands (path 2) (two asked asked) (request 1 1 0 ∷ reject 1 1 0 ∷ []) r₃ _ = came s₂ (answers asked asked (reject 1 1 0 ∷ []) 1) (request_1 r₂.map) c.deliver.ensures.made in

@@ -8,6 +8,6 @@ use Rattle.facts.proofs.rigs.draw_with.Goals as goal
 
 pub returns : goal.returns
 returns c =
-    let rig = c.rig-on-path-rig.result in
-    let first : Stands (path 3) new_board [] rig _ = record { map = c.rig-on-path-rig.ensures.map; nodes = c.rig-on-path-rig.ensures.nodes; radio = c.new-queue.ensures } in
+    let rig = c.rig_on_path-rig.result in
+    let first : Stands (path 3) new_board [] rig _ = record { map = c.rig_on_path-rig.ensures.map; nodes = c.rig_on_path-rig.ensures.nodes; radio = c.new-queue.ensures } in
     draw_answers first 0 c.args.number (drawn_of rig.map (path 3) new_board 0 c.args.number) refl c.draw.result c.draw.ensures.value ∙ three-drawn rig.map c.args.number

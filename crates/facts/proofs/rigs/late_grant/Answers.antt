@@ -10,10 +10,10 @@ use Rattle.facts.proofs.rigs.late_grant.Goals as goal
 
 pub returns : goal.returns
 returns c =
-    let rig = c.in-round-two-before.result in
+    let rig = c.in_round_two-before.result in
     let slots = c.with.result in
-    let posted = put_alone c.new-queue.ensures c.to-node-0.ensures c.put.ensures in
-    let s₀ : Stands (path 2) (two again blank) (grant slots 1 1 0 ∷ []) rig _ = record { map = c.in-round-two-before.ensures.map; nodes = c.in-round-two-before.ensures.nodes; radio = posted } in
+    let posted = put_alone c.new-queue.ensures c.to_node_0.ensures c.put.ensures in
+    let s₀ : Stands (path 2) (two again blank) (grant slots 1 1 0 ∷ []) rig _ = record { map = c.in_round_two-before.ensures.map; nodes = c.in_round_two-before.ensures.nodes; radio = posted } in
     let a = answers again blank (fail 1 0 1 ∷ []) 2 in
     let s₁ = came s₀ a (late rig.map slots) c.deliver-answer.ensures.made in
     record {

@@ -10,8 +10,8 @@ use Rattle.facts.proofs.rigs.lone_node.Goals as goal
 
 pub returns : goal.returns
 returns c =
-    let first : Stands (path 1) new_board _ c.rig-on-path-rig.result _ = record { map = c.rig-on-path-rig.ensures.map; nodes = c.rig-on-path-rig.ensures.nodes; radio = c.new-queue.ensures } in
-    let is = lone-drawn c.rig-on-path-rig.result.map in
+    let first : Stands (path 1) new_board _ c.rig_on_path-rig.result _ = record { map = c.rig_on_path-rig.ensures.map; nodes = c.rig_on_path-rig.ensures.nodes; radio = c.new-queue.ensures } in
+    let is = lone-drawn c.rig_on_path-rig.result.map in
     let after = drew first 0 1 lone_after is c.draw-answer.ensures.made in
     record {
       map = after.map;

@@ -10,11 +10,11 @@ pub returns : goal.returns
 returns c =
     let play = c.args.play.now in
     let s = written c.new-text.result in
-    let first = written c.push-rows.new.text in
-    let word = written c.push-str.new.self in
-    let last = written c.end-line.new.self in
+    let first = written c.push_rows.new.text in
+    let word = written c.push_str.new.self in
+    let last = written c.end_line.new.self in
     let ends : ℕ → List ℕ = λ v. line_end (c.args.play.now.came ∷ (c.args.play.now.refused ∷ (v ∷ []))) in
     whole s last (listing c.args.play.now.rig.map (shown c.args.play.now)) c.new-text.ensures c.requires
-    (and_then s first last (rows c.args.play.now.rig.nodes (nodes c.args.play.now.rig.map)) (codes "end" ++ ends c.largest.result) c.push-rows.ensures
-    (and_then first word last (codes "end") (ends c.largest.result) c.push-str.ensures c.end-line.ensures)
+    (and_then s first last (rows c.args.play.now.rig.nodes (nodes c.args.play.now.rig.map)) (codes "end" ++ ends c.largest.result) c.push_rows.ensures
+    (and_then first word last (codes "end") (ends c.largest.result) c.push_str.ensures c.end_line.ensures)
     ∙ ap (λ (v : ℕ). clip (s ++ (rows c.args.play.now.rig.nodes (nodes c.args.play.now.rig.map) ++ (codes "end" ++ ends v)))) c.largest.ensures)

@@ -8,4 +8,4 @@ loop-k-init c = rows_none c.args.rig.now.nodes (written c.args.text.now) (simp l
 
 pub loop-k-preserved : goal.loop-k-preserved
 loop-k-preserved c =
-    rows_more c.args.rig.now.nodes (written c.args.text.now) (written c.loop-k.text) (written c.push-row.new.text) c.loop-k.k c.loop-k.invariant c.push-row.ensures
+    rows_more c.args.rig.now.nodes (written c.args.text.now) (written c.loop-k.text) (written c.push_row.new.text) c.loop-k.k c.loop-k.invariant c.push_row.ensures

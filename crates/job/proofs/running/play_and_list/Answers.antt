@@ -17,10 +17,10 @@ list-requires g c =
     let m = c.args.map.now in
     let s = g.R.Radio.state c.args.radio.now in
     let es = events c.args.job.now in
-    listing_short c.play-all-play.result.rig.map (shown c.play-all-play.result)
+    listing_short c.play_all-play.result.rig.map (shown c.play_all-play.result)
     (short_end g.R.Radio.ways rule m es (plays g.R.Radio.ways m es (fresh s)) (settles g.R.Radio.ways m s rule c.requires.empty es)
-    c.play-all-play.result.rig.map c.play-all-play.result.rig.nodes c.play-all-play.ensures.map (ap (λ (t : Stand g.R.Radio.State). t.nodes) c.play-all-play.ensures.after))
-    c.play-all-play.ensures.counts
+    c.play_all-play.result.rig.map c.play_all-play.result.rig.nodes c.play_all-play.ensures.map (ap (λ (t : Stand g.R.Radio.State). t.nodes) c.play_all-play.ensures.after))
+    c.play_all-play.ensures.counts
 
 pub returns : goal.returns
 returns g c =
@@ -28,5 +28,5 @@ returns g c =
     let rule : AirRule g.R.Radio.ways = record { put_air = met.put_air; take_air = met.take_air; taken_air = met.taken_air } in
     record {
       law = settles g.R.Radio.ways c.args.map.now (g.R.Radio.state c.args.radio.now) rule c.requires.empty (events c.args.job.now);
-      text = c.list.ensures ∙ ap₂ (λ (m : Map) (t : Stand g.R.Radio.State). listing m t) c.play-all-play.ensures.map c.play-all-play.ensures.after;
+      text = c.list.ensures ∙ ap₂ (λ (m : Map) (t : Stand g.R.Radio.State). listing m t) c.play_all-play.ensures.map c.play_all-play.ensures.after;
     }

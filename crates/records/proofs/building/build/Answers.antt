@@ -4,34 +4,34 @@ use Rattle.records.specs.Build.{good}
 use Rattle.records.proofs.Fronts.{unfit_bad, no_record, first_good, first-bad, next_good, next_bad, all-good}
 use Rattle.records.proofs.building.build.Goals as goal
 
-pub returns-in-default : goal.returns-in-default
-returns-in-default c =
-    let k = c.in-default.ensures in (
-      sym c.in-ok-check-length.ensures,
+pub returns-in_default : goal.returns-in_default
+returns-in_default c =
+    let k = c.in_default.ensures in (
+      sym c.in_ok-check_length.ensures,
       unfit_bad c.args.job.now c.index.result
           (no_record (good c.args.job.now) c.args.job.now c.new-reader.result.job.now c.new-reader.result.place c.next.new.self.place c.index.result
           refl c.new-reader.ensures.job c.new-reader.ensures.place k.value k.place c.index.ensures),
     )
 
-pub returns-in-default-open-map : goal.returns-in-default-open-map
-returns-in-default-open-map c =
+pub returns-in_default-open_map : goal.returns-in_default-open_map
+returns-in_default-open_map c =
     let k = c.in-Some.ensures in (
-      sym c.in-ok-check-length.ensures,
+      sym c.in_ok-check_length.ensures,
       first-bad c.args.job.now c.new-reader.result.job.now c.in-Some.first.now c.new-reader.result.place c.next.new.self.place
-          c.new-reader.ensures.job k.value k.place c.index-in-default-open-map.result c.new-reader.ensures.place c.in-default-open-map.ensures c.index-in-default-open-map.ensures,
+          c.new-reader.ensures.job k.value k.place c.index-in_default-open_map.result c.new-reader.ensures.place c.in_default-open_map.ensures c.index-in_default-open_map.ensures,
     )
 
 pub loop-record-init : goal.loop-record-init
 loop-record-init c =
     let k = c.in-Some.ensures in
-    let o = c.in-Some-open-map.ensures in
+    let o = c.in-Some-open_map.ensures in
     first_good c.args.job.now c.new-reader.result.job.now c.in-Some.first.now c.new-reader.result.place c.next.new.self.place
-    c.new-reader.ensures.job k.value k.place c.next.new.self.job.now (net c.in-Some-open-map.map) k.job c.new-reader.ensures.place o.0 o.1
+    c.new-reader.ensures.job k.value k.place c.next.new.self.job.now (net c.in-Some-open_map.map) k.job c.new-reader.ensures.place o.0 o.1
 
 pub returns-then-not-join : goal.returns-then-not-join
 returns-then-not-join c =
     let k = c.in-Some-next.ensures in (
-      sym c.in-ok-check-length.ensures,
+      sym c.in_ok-check_length.ensures,
       next_bad c.args.job.now c.loop-record.reader.job.now c.in-Some-next.record.now c.loop-record.reader.place c.next-in-loop-record.new.self.place
           c.loop-record.invariant.same k.value k.place (net c.loop-record.map) c.loop-record.invariant c.index-then-not-join.result
           c.if-not-join.ensures.answer c.index-then-not-join.ensures,
@@ -46,5 +46,5 @@ loop-record-preserved c =
 
 pub returns : goal.returns
 returns c =
-    let a = all-good c.args.job.now c.loop-record.reader.job.now c.loop-record.reader.place (net c.loop-record.map) c.loop-record.invariant c.in-default-next.ensures.value in
-    (sym c.in-ok-check-length.ensures, a.0, a.1)
+    let a = all-good c.args.job.now c.loop-record.reader.job.now c.loop-record.reader.place (net c.loop-record.map) c.loop-record.invariant c.in_default-next.ensures.value in
+    (sym c.in_ok-check_length.ensures, a.0, a.1)

@@ -6,8 +6,8 @@ use Rattle.map.proofs.Contends.{contend_mutual, contend-apart}
 use Rattle.map.proofs.Counts.{handshake, contenders_le}
 use Rattle.report.proofs.writing.contending_pairs.Goals as goal
 
-pub overflow-add-ends : goal.overflow-add-ends
-overflow-add-ends c = let m = c.args.map.now.most in omega (arith, c.loop-n.invariant.1)
+pub overflow_add-ends : goal.overflow_add-ends
+overflow_add-ends c = let m = c.args.map.now.most in omega (arith, c.loop-n.invariant.1)
 
 pub loop-n-init : goal.loop-n-init
 unfolding sum_below

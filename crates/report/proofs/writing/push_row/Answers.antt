@@ -14,7 +14,7 @@ returns c =
     let z = c.from-slot.result in
     let links : x ≡ degree m n = c.from-neighbours.ensures ∙ c.degree.ensures in
     let near : y ≡ contender_count m n = c.from-contenders.ensures ∙ c.len.ensures ∙ c.contenders.ensures.len in
-    and_then s (written c.push-number.new.self) (written c.end-line.new.self) (decimal c.from.result) (line_end (x ∷ (y ∷ (z ∷ []))))
-    c.push-number.ensures c.end-line.ensures
+    and_then s (written c.push_number.new.self) (written c.end_line.new.self) (decimal c.from.result) (line_end (x ∷ (y ∷ (z ∷ []))))
+    c.push_number.ensures c.end_line.ensures
     ∙ ap₂ (λ (v w : ℕ). clip (s ++ (decimal v ++ line_end (x ∷ (y ∷ (w ∷ [])))))) c.from.ensures c.from-slot.ensures
     ∙ ap₂ (λ (v w : ℕ). clip (s ++ (decimal n ++ line_end (v ∷ (w ∷ (c.args.slot ∷ [])))))) links near

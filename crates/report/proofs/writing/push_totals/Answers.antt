@@ -11,14 +11,14 @@ returns c =
     let m = c.args.map.now in
     let x = c.from-nodes.result in
     let y = c.from-links.result in
-    let z = c.contending-pairs-pairs.result in
+    let z = c.contending_pairs-pairs.result in
     let v = verdict_text c.args.verdict in
-    let word = written c.push-str.new.self in
-    let numbers = written c.push-numbers.new.self in
-    let verdict = written c.push-verdict.new.text in
+    let word = written c.push_str.new.self in
+    let numbers = written c.push_numbers.new.self in
+    let verdict = written c.push_verdict.new.text in
     let last = written c.push.new.self in
-    and_then s word last (codes "total") (spaced (x ∷ (y ∷ (z ∷ []))) ++ (v ++ (10 ∷ []))) c.push-str.ensures
-    (and_then word numbers last (spaced (x ∷ (y ∷ (z ∷ [])))) (v ++ (10 ∷ [])) c.push-numbers.ensures
-    (and_then numbers verdict last v (10 ∷ []) c.push-verdict.ensures c.push.ensures))
+    and_then s word last (codes "total") (spaced (x ∷ (y ∷ (z ∷ []))) ++ (v ++ (10 ∷ []))) c.push_str.ensures
+    (and_then word numbers last (spaced (x ∷ (y ∷ (z ∷ [])))) (v ++ (10 ∷ [])) c.push_numbers.ensures
+    (and_then numbers verdict last v (10 ∷ []) c.push_verdict.ensures c.push.ensures))
     ∙ ap₂ (λ (p q : ℕ). clip (s ++ (codes "total" ++ (spaced (p ∷ (q ∷ (z ∷ []))) ++ (v ++ (10 ∷ [])))))) (c.from-nodes.ensures ∙ c.count.ensures) (c.from-links.ensures ∙ c.links.ensures)
-    ∙ ap (λ (p : ℕ). clip (s ++ (codes "total" ++ (spaced (nodes m ∷ (link_count m ∷ (p ∷ []))) ++ (v ++ (10 ∷ [])))))) c.contending-pairs-pairs.ensures
+    ∙ ap (λ (p : ℕ). clip (s ++ (codes "total" ++ (spaced (nodes m ∷ (link_count m ∷ (p ∷ []))) ++ (v ++ (10 ∷ [])))))) c.contending_pairs-pairs.ensures

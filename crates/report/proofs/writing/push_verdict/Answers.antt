@@ -14,22 +14,22 @@ told s u v w e h = h ∙ ap (λ (r : Result Verdict Refusal). clip (s ++ verdict
 pub returns-in-Accepted : goal.returns-in-Accepted
 returns-in-Accepted c =
     let s = written c.args.text.now in
-    told s (written c.push-str.new.self) c.args.verdict (Ok (Accepted c.in-Accepted.largest)) (c.in-Ok.is ∙ ap (λ (t : Verdict). Ok t) c.in-Accepted.is)
-    (and_then s (written c.push-numbers.new.self) (written c.push-str.new.self) (spaced (c.from.result ∷ [])) (codes " accepted") c.push-numbers.ensures c.push-str.ensures
+    told s (written c.push_str.new.self) c.args.verdict (Ok (Accepted c.in-Accepted.largest)) (c.in-Ok.is ∙ ap (λ (t : Verdict). Ok t) c.in-Accepted.is)
+    (and_then s (written c.push_numbers.new.self) (written c.push_str.new.self) (spaced (c.from.result ∷ [])) (codes " accepted") c.push_numbers.ensures c.push_str.ensures
     ∙ ap (λ (x : ℕ). clip (s ++ (spaced (x ∷ []) ++ codes " accepted"))) c.from.ensures)
 
 pub returns-in-Clash : goal.returns-in-Clash
 returns-in-Clash c =
     let s = written c.args.text.now in
-    told s (written c.push-numbers-in-Clash.new.self) c.args.verdict (Ok (Clash c.in-Clash.pair)) (c.in-Ok.is ∙ ap (λ (t : Verdict). Ok t) c.in-Clash.is)
-    (and_then s (written c.push-str-in-Clash.new.self) (written c.push-numbers-in-Clash.new.self) (codes " clash") (spaced (c.from-in-Clash.result ∷ (c.from-in-Clash-2.result ∷ [])))
-    c.push-str-in-Clash.ensures c.push-numbers-in-Clash.ensures
+    told s (written c.push_numbers-in-Clash.new.self) c.args.verdict (Ok (Clash c.in-Clash.pair)) (c.in-Ok.is ∙ ap (λ (t : Verdict). Ok t) c.in-Clash.is)
+    (and_then s (written c.push_str-in-Clash.new.self) (written c.push_numbers-in-Clash.new.self) (codes " clash") (spaced (c.from-in-Clash.result ∷ (c.from-in-Clash-2.result ∷ [])))
+    c.push_str-in-Clash.ensures c.push_numbers-in-Clash.ensures
     ∙ ap₂ (λ (x y : ℕ). clip (s ++ (codes " clash" ++ spaced (x ∷ (y ∷ []))))) c.from-in-Clash.ensures c.from-in-Clash-2.ensures)
 
 pub returns-in-Err : goal.returns-in-Err
 returns-in-Err c =
     let s = written c.args.text.now in
-    told s (written c.push-numbers-in-Err.new.self) c.args.verdict (Err c.in-Err.refusal) c.in-Err.is
-    (and_then s (written c.push-str-in-Err.new.self) (written c.push-numbers-in-Err.new.self) (codes " refused") (spaced (c.from-in-Err.result ∷ []))
-    c.push-str-in-Err.ensures c.push-numbers-in-Err.ensures
+    told s (written c.push_numbers-in-Err.new.self) c.args.verdict (Err c.in-Err.refusal) c.in-Err.is
+    (and_then s (written c.push_str-in-Err.new.self) (written c.push_numbers-in-Err.new.self) (codes " refused") (spaced (c.from-in-Err.result ∷ []))
+    c.push_str-in-Err.ensures c.push_numbers-in-Err.ensures
     ∙ ap (λ (x : ℕ). clip (s ++ (codes " refused" ++ spaced (x ∷ [])))) (c.from-in-Err.ensures ∙ c.number.ensures))

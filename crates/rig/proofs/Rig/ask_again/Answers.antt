@@ -11,8 +11,8 @@ use Rattle.rig.proofs.Rig.ask_again.Goals.{then-linked, else-linked, then-open, 
 pub loop-j-init : goal.loop-j-init
 loop-j-init g c = (each_none g.R.Radio.ways _ _ _, sym (each_length_none _ _))
 
-pub overflow-add-sent : goal.overflow-add-sent
-overflow-add-sent g c =
+pub overflow_add-sent : goal.overflow_add-sent
+overflow_add-sent g c =
     let v = at c.args.self.now.nodes c.args.k in
     let e = c.loop-j.invariant.1 in
     omega (arith, each-most (unmarked c.args.self.now.map v c.args.k) (request v.round c.args.k) c.loop-j.j)

@@ -10,8 +10,8 @@ pub loop-i-init : goal.loop-i-init
 unfolding sum_below
 loop-i-init c = refl
 
-pub overflow-add-count : goal.overflow-add-count
-overflow-add-count c = omega (arith, count_le (λ k. not (eqb (at c.args.self.now.nodes k).slot 0)) c.loop-i.i)
+pub overflow_add-count : goal.overflow_add-count
+overflow_add-count c = omega (arith, count_le (λ k. not (eqb (at c.args.self.now.nodes k).slot 0)) c.loop-i.i)
 
 pub loop-i-preserved : goal.loop-i-preserved
 loop-i-preserved c =

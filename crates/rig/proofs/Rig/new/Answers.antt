@@ -3,5 +3,5 @@ use Rattle.rig.specs.Calm.{Calm}
 use Rattle.rig.proofs.Calms.{calm_new}
 use Rattle.rig.proofs.Rig.new.Goals as goal
 
-pub invariant-of-result : goal.invariant-of-result
-invariant-of-result c = (ap length c.blank-nodes.ensures, (subst Calm (sym c.blank-nodes.ensures) calm_new, tt))
+pub invariant_of-result : goal.invariant_of-result
+invariant_of-result c = record { full = ap length c.blank_nodes.ensures; calm = subst Calm (sym c.blank_nodes.ensures) calm_new }

@@ -3,5 +3,5 @@ use Rattle.rig.specs.Calm.{Calm}
 use Rattle.rig.proofs.Calms.{calm_new}
 use Rattle.rig.proofs.Rig.open.Goals as goal
 
-pub invariant-of-self : goal.invariant-of-self
-invariant-of-self c = (ap length c.blank-nodes.ensures, (subst Calm (sym c.blank-nodes.ensures) calm_new, tt))
+pub invariant_of-self : goal.invariant_of-self
+invariant_of-self c = record { full = ap length c.blank_nodes.ensures; calm = subst Calm (sym c.blank_nodes.ensures) calm_new }

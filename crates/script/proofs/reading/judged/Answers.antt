@@ -7,34 +7,34 @@ use Rattle.script.specs.Steps.{SetUp}
 use Rattle.script.proofs.Drafts.{first_good, first-bad, next_good, next_bad, all-good}
 use Rattle.script.proofs.reading.judged.Goals as goal
 
-pub returns-in-err-first : goal.returns-in-err-first
-returns-in-err-first c =
+pub returns-in_err-first : goal.returns-in_err-first
+returns-in_err-first c =
     let job = c.args.reader.now.job.now in
-    let k = c.in-err-first.ensures in
+    let k = c.in_err-first.ensures in
     rw c.from-residual.ensures
     (no_record (good job) job job c.args.reader.now.place c.next.new.self.place (c.next.new.self.place - 1) refl refl c.requires k.value k.place refl)
 
-pub returns-in-err-map : goal.returns-in-err-map
-returns-in-err-map c =
+pub returns-in_err-map : goal.returns-in_err-map
+returns-in_err-map c =
     let job = c.args.reader.now.job.now in
-    let k = c.in-ok-first.ensures in
-    rw c.from-residual-in-err-map.ensures
-    (first-bad job job c.in-ok-first.first.now c.args.reader.now.place c.next.new.self.place refl k.value k.place
-    (c.next.new.self.place - 1) c.requires c.in-err-map.ensures refl)
+    let k = c.in_ok-first.ensures in
+    rw c.from-residual-in_err-map.ensures
+    (first-bad job job c.in_ok-first.first.now c.args.reader.now.place c.next.new.self.place refl k.value k.place
+    (c.next.new.self.place - 1) c.requires c.in_err-map.ensures refl)
 
 pub loop-record-init : goal.loop-record-init
 loop-record-init c =
     let job = c.next.new.self.job.now in
-    let k = c.in-ok-first.ensures in
-    let o = c.in-ok-map.ensures in
-    first_good job c.args.reader.now.job.now c.in-ok-first.first.now c.args.reader.now.place c.next.new.self.place
-    (sym k.job) k.value k.place job c.in-ok-map.map refl c.requires o.0 o.1
+    let k = c.in_ok-first.ensures in
+    let o = c.in_ok-map.ensures in
+    first_good job c.args.reader.now.job.now c.in_ok-first.first.now c.args.reader.now.place c.next.new.self.place
+    (sym k.job) k.value k.place job c.in_ok-map.map refl c.requires o.0 o.1
 
 pub returns-then-not-take : goal.returns-then-not-take
 returns-then-not-take c =
     let k = c.in-Some.ensures in
     let last = c.next-in-loop-record.new.self.place in
-    subst (λ (job : List ℕ). FirstUnfit (good job) (records job) (last - 1)) c.in-ok-first.ensures.job
+    subst (λ (job : List ℕ). FirstUnfit (good job) (records job) (last - 1)) c.in_ok-first.ensures.job
     (next_bad c.next.new.self.job.now c.loop-record.reader.job.now c.in-Some.record.now c.loop-record.reader.place last
     c.loop-record.invariant.same k.value k.place c.loop-record.draft c.loop-record.invariant (last - 1) c.if-not-take.ensures.answer refl)
 
@@ -47,5 +47,5 @@ loop-record-preserved c =
 
 pub returns : goal.returns
 returns c =
-    subst (λ (job : List ℕ). SetUp job c.loop-record.draft.script) c.in-ok-first.ensures.job
-    (all-good c.next.new.self.job.now c.loop-record.reader.job.now c.loop-record.reader.place c.loop-record.draft c.loop-record.invariant c.in-default.ensures.value)
+    subst (λ (job : List ℕ). SetUp job c.loop-record.draft.script) c.in_ok-first.ensures.job
+    (all-good c.next.new.self.job.now c.loop-record.reader.job.now c.loop-record.reader.place c.loop-record.draft c.loop-record.invariant c.in_default.ensures.value)

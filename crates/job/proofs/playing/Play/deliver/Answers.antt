@@ -9,18 +9,18 @@ loop-turn-preserved g c =
     let call = c.call-answer.ensures in (
       call.map ∙ same,
       turn_on g.R.Radio.ways c.args.self.now.rig.map c.args.times c.loop-turn.-turn (stand c.args.self.now (g.R.Radio.state c.args.radio.now)) (stand c.loop-turn.self (g.R.Radio.state c.loop-turn.radio)) so_far
-          c.loop-turn.self.rig.map _ c.call-answer.result c.loop-turn-test.true same call.after call.value (sym c.if-is-nothing.ensures),
+          c.loop-turn.self.rig.map _ c.call-answer.result c.loop-turn-test.true same call.after call.value (sym c.if-is_nothing.ensures),
       (let counts = call.counts in omega arith),
     )
 
-pub returns-then-is-nothing : goal.returns-then-is-nothing
-returns-then-is-nothing g c =
+pub returns-then-is_nothing : goal.returns-then-is_nothing
+returns-then-is_nothing g c =
     let (same, so_far, few) = c.loop-turn.invariant in
     let call = c.call-answer.ensures in
     record {
       map = call.map ∙ same;
       after = turn_off g.R.Radio.ways c.args.self.now.rig.map c.args.times c.loop-turn.-turn (stand c.args.self.now (g.R.Radio.state c.args.radio.now)) (stand c.loop-turn.self (g.R.Radio.state c.loop-turn.radio)) so_far
-          c.loop-turn.self.rig.map _ c.call-answer.result c.loop-turn-test.true same call.after call.value (sym c.if-is-nothing.ensures);
+          c.loop-turn.self.rig.map _ c.call-answer.result c.loop-turn-test.true same call.after call.value (sym c.if-is_nothing.ensures);
       counts = (let counts = call.counts in let l = c.loop-turn-test.true in omega arith);
     }
 
