@@ -54,8 +54,7 @@ fn fold(answer: Result<Verdict, Refusal>) -> u32
 /// Answers 0 if no two contenders share a slot, 256 × a + b for the first pair a, b that does, or
 /// 65,536 plus a refusal's number: 2 or 13 by the job's length, 14 for a bad record, then 1 for
 /// fewer slots than nodes.
-#[unsafe(no_mangle)]
-pub extern "C" fn slot_check(job: &[u8], slots: &[u8]) -> u32
+pub fn slot_check(job: &[u8], slots: &[u8]) -> u32
     ensures { Answered job.now slots.now result }
 {
     match build(job) {

@@ -11,14 +11,14 @@ pub returns-in_err-first : goal.returns-in_err-first
 returns-in_err-first c =
     let job = c.args.reader.now.job.now in
     let k = c.in_err-first.ensures in
-    rw c.from-residual.ensures
+    rw c.from_residual.ensures
     (no_record (good job) job job c.args.reader.now.place c.next.new.self.place (c.next.new.self.place - 1) refl refl c.requires k.value k.place refl)
 
 pub returns-in_err-map : goal.returns-in_err-map
 returns-in_err-map c =
     let job = c.args.reader.now.job.now in
     let k = c.in_ok-first.ensures in
-    rw c.from-residual-in_err-map.ensures
+    rw c.from_residual-in_err-map.ensures
     (first-bad job job c.in_ok-first.first.now c.args.reader.now.place c.next.new.self.place refl k.value k.place
     (c.next.new.self.place - 1) c.requires c.in_err-map.ensures refl)
 
