@@ -24,8 +24,8 @@ fn is_nothing(answer: Result<u8, Refusal>) -> bool
 
 // Draws node `a` with 1, and then delivers until nothing comes; how many messages came.
 fn settle<R: Radio>(rig: &mut Rig, radio: &mut R, a: u8) -> u32
-    requires sure { Sure R.Radio.ways }
-    requires resting { Resting R.Radio.ways rig.old.map rig.old.nodes (R.Radio.state radio.old) }
+    requires sure { Sure R.ways }
+    requires resting { Resting R.ways rig.old.map rig.old.nodes (R.state radio.old) }
     requires inside { a < nodes rig.old.map }
     requires undecided { (at rig.old.nodes a).slot ≡ 0 }
     ensures map { rig.new.map ≡ rig.old.map }
@@ -41,9 +41,9 @@ fn settle<R: Radio>(rig: &mut Rig, radio: &mut R, a: u8) -> u32
 
 // Settles each node of the order in turn, on a new rig; how many messages came.
 pub(crate) fn settle_in_order<R: Radio>(rig: &mut Rig, radio: &mut R, order: &[u8]) -> u32
-    requires sure { Sure R.Radio.ways }
+    requires sure { Sure R.ways }
     requires new { rig.old.nodes ≡ new_board }
-    requires empty { R.Radio.ways.air (R.Radio.state radio.old) ≡ [] }
+    requires empty { R.ways.air (R.state radio.old) ≡ [] }
     requires fine { Fine (nodes rig.old.map) order.now }
     ensures map { rig.new.map ≡ rig.old.map }
     ensures settled { Settled R.ways rig.old.map order.now rig.new.nodes (R.state radio.new) result }

@@ -17,7 +17,7 @@ use text::Text;
 // Plays the events of a job, and lists what came of them.
 fn play_and_list<R: Radio>(map: &Map, radio: &mut R, job: &[u8]) -> Text
     requires few { records job.now ≤ 4096 }
-    requires empty { R.Radio.ways.air (R.Radio.state radio.old) ≡ [] }
+    requires empty { R.ways.air (R.state radio.old) ≡ [] }
     ensures law { PlaysOut R.ways map.now (events job.now) (plays R.ways map.now (events job.now) (fresh (R.state radio.old))) }
     ensures text { written result ≡ listing map.now (plays R.ways map.now (events job.now) (fresh (R.state radio.old))) }
 {

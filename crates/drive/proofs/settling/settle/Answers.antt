@@ -54,7 +54,7 @@ returns g c =
     let drawn = c.draw.ensures.made in
     let made = c.deliver.ensures.made in
     let first = drew r.ways (rule g) c.requires.sure m a c.requires.inside b s c.requires.resting c.requires.undecided c.draw.new.self.nodes (r.state c.draw.new.radio) drawn.nodes drawn.radio in
-    let going = subst (λ (x : Map). Going r.ways x a c.draw.new.self.nodes (r.state c.draw.new.radio) c.loop-came.rig.nodes (r.state c.loop-came.radio) c.loop-came.branch) drawn.map c.loop-came.invariant.1 in
+    let going = subst (λ (x : Map). Going r.ways x a c.draw.new.self.nodes (r.state c.draw.new.radio) c.loop-came.rig.nodes (r.state c.loop-came.radio) c.loop-came.came) drawn.map c.loop-came.invariant.1 in
     record {
       map = made.map ∙ c.loop-came.invariant.0 ∙ drawn.map;
       settling = off r.ways (rule g) c.requires.sure m a c.requires.inside _ _ _ _ _ going _ (c.loop-came.invariant.0 ∙ drawn.map)
