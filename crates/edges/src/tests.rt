@@ -154,9 +154,9 @@ fn parts_of_a_record(rt: HostRuntime) -> Result<(), Fail> {
     assert!(rt; Record::take_apart(b"D\x07\x09\0\0\0\0\0\0").is_none());
     let mut reader = Reader::new(b"N\x02\0\0\0\0\0\0L\0\x01\0\0\0\0\0LLL");
     assert_eq!(rt; reader.index(), 0);
-    assert_eq!(rt; reader.next(), Some(b"N\x02\0\0\0\0\0\0"));
+    assert_eq!(rt; reader.next(), Some(b"N\x02\0\0\0\0\0\0".as_slice()));
     assert_eq!(rt; reader.index(), 0);
-    assert_eq!(rt; reader.next(), Some(b"L\0\x01\0\0\0\0\0"));
+    assert_eq!(rt; reader.next(), Some(b"L\0\x01\0\0\0\0\0".as_slice()));
     assert_eq!(rt; reader.index(), 1);
     assert!(rt; reader.next().is_none());
     assert_eq!(rt; reader.index(), 1);
@@ -209,9 +209,9 @@ fn reports(rt: HostRuntime) {
     let path = b"N\x03\0\0\0\0\0\0L\0\x01\0\0\0\0\0L\x01\x02\0\0\0\0\0";
     assert_eq!(rt;
         report(path).as_bytes(),
-        b"0 1 2 1\n1 2 2 2\n2 1 2 3\ntotal 3 2 3 3 accepted\n"
+        b"0 1 2 1\n1 2 2 2\n2 1 2 3\ntotal 3 2 3 3 accepted\n".as_slice()
     );
-    assert_eq!(rt; report(b"").as_bytes(), b"refused 14 0\n");
-    assert_eq!(rt; report(b"N\x03").as_bytes(), b"refused 13\n");
-    assert_eq!(rt; report(&[0; 32_769]).as_bytes(), b"refused 2\n");
+    assert_eq!(rt; report(b"").as_bytes(), b"refused 14 0\n".as_slice());
+    assert_eq!(rt; report(b"N\x03").as_bytes(), b"refused 13\n".as_slice());
+    assert_eq!(rt; report(&[0; 32_769]).as_bytes(), b"refused 2\n".as_slice());
 }

@@ -2,4 +2,4 @@ use Rattle.std.proofs.Common.{◌≡◌, length}
 use Rattle.plan_edges.proofs.tests.all_of_64_linked.Given as goal
 
 abbrev pub invariant-loop-i : goal.invariant-loop-i
-invariant-loop-i l = length l.order ≡ 64
+invariant-loop-i g l = length l.order ≡ 64
