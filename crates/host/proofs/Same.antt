@@ -1,5 +1,5 @@
 -- Tables that agree on the items get the same answer.
-use Rattle.std.proofs.Common.{◌≡◌, ℕ, ◌+◌, ◌<◌, ◌≤◌, Bool, ◌⊎◌, List, length, get_or, Ok, Err, Result, sym, ◌∙◌, subst, inl, inr, arith}
+use Rattle.std.proofs.Common.{◌≡◌, ℕ, ◌<◌, ◌≤◌, Bool, ◌⊎◌, List, length, get_or, Ok, Err, Result, sym, ◌∙◌, subst, inl, inr, arith}
 use Rattle.refusal.proofs.Why.{Why-cases}
 use Rattle.refusal.specs.Entry.{entry}
 use Rattle.refusal.specs.declared.Refusal.{Refusal}

@@ -1,5 +1,5 @@
 -- What is shown of every call: it keeps the invariant, what it sends is true, and it decides one node rightly, or none.
-use Rattle.std.proofs.Common.{◌≡◌, ℕ, suc, ◌<◌, not, eqb, ◌⊎◌, List, [], ◌∷◌, length, sym, refl, ap, ◌∙◌, subst, inl, inr, ⊎_elim, arith}
+use Rattle.std.proofs.Common.{◌≡◌, ℕ, suc, ◌<◌, not, eqb, ◌⊎◌, [], ◌∷◌, length, sym, refl, ap, ◌∙◌, subst, inl, inr, ⊎_elim, arith}
 use mathlib.Core.Path.{fun_ext}
 use mathlib.Core.List.Memᴰ
 use Rattle.std.proofs.lemmas.List.{length-set}

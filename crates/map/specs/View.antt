@@ -1,5 +1,5 @@
 -- What a map says: its nodes, who is linked, who contends, and how many.
-use Rattle.std.specs.Prelude.{◌≡◌, ℕ, ◌<◌, Bool, true, not, ◌&&◌, ◌||◌, ◌⊎◌, ◌==◌, ◌≢◌}
+use Rattle.std.specs.Prelude.{◌≡◌, ℕ, Bool, true, not, ◌&&◌, ◌||◌, ◌⊎◌, ◌==◌, ◌≢◌}
 use Rattle.marks.specs.Below.{some_below, sum_below, count_below}
 use Rattle.map.specs.Rows.{has}
 use Rattle.map.specs.declared.Map.{Map}

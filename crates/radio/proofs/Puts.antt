@@ -1,9 +1,9 @@
 -- Putting in a list of messages, one by one.
-use Rattle.std.proofs.Common.{◌≡◌, ℕ, ◌+◌, ◌<◌, ◌⊎◌, List, [], ◌∷◌, ◌++◌, length, get_or, take, sym, refl, ap, ◌∙◌, inl, inr, ⊎_elim}
+use Rattle.std.proofs.Common.{◌≡◌, ℕ, ◌+◌, ◌<◌, List, [], ◌∷◌, ◌++◌, length, get_or, take, sym, refl, ap, ◌∙◌, inl, inr, ⊎_elim}
 use mathlib.Core.List.Memᴰ
 use Rattle.std.proofs.lemmas.List.{take_more}
 use Rattle.radio.specs.declared.message.Message.{Message}
-use Rattle.radio.specs.Ways.{Ways, AirRule, In, puts, OldOrPut}
+use Rattle.radio.specs.Ways.{Ways, AirRule, puts, OldOrPut}
 
 pub puts_push : {S : Type 0} (w : Ways S) (s : S) (ms : List Message) (m : Message) → puts w s (ms ++ (m ∷ [])) ≡ w.after_put (puts w s ms) m
 puts_push w s [] m = refl

@@ -1,5 +1,5 @@
 -- Messages that wait, the oldest first, with space for 256.
-use Rattle.std.specs.Prelude.{ℕ, cond, List, [], ◌∷◌, ◌++◌, length, take, nat_lt}
+use Rattle.std.specs.Prelude.{cond, List, [], ◌∷◌, ◌++◌, length, take, nat_lt}
 use Rattle.radio.specs.declared.message.Message.{Message}
 use Rattle.radio.specs.declared.air.Air.{Air}
 

@@ -11,7 +11,7 @@ use refusal::Refusal;
 
 /// The map that an N record opens, with its count of nodes and no link; `None` if the bytes are no
 /// such record: eight bytes, the count 1 to 64 and every other byte 0.
-pub fn open_map(bytes: &[u8]) -> Option<Map>
+pub fn opened(bytes: &[u8]) -> Option<Map>
     ensures { MatchOption result (opens (taken bytes.now) ≡ false) (λ m. (opens (taken bytes.now) ≡ true) × (net m ≡ bare (slice_index bytes.now 1))) }
 {
     let record = Record::take_apart(bytes)?;
@@ -30,7 +30,7 @@ pub fn open_map(bytes: &[u8]) -> Option<Map>
 /// Adds the link of an L record, which may be there already; false, and the same map, if the bytes are
 /// no such record (eight bytes, those past the two nodes 0), or if the map refuses the link: a node is
 /// not below its count, or the two are equal.
-pub fn join(map: &mut Map, bytes: &[u8]) -> bool
+pub fn joined(map: &mut Map, bytes: &[u8]) -> bool
     ensures answer { result ≡ joins (nodes map.old) (taken bytes.now) }
     ensures after { MatchBool result (net map.new ≡ linked_up (net map.old) (slice_index bytes.now 1) (slice_index bytes.now 2)) (map.new ≡ map.old) }
 {
@@ -56,11 +56,11 @@ pub fn build(job: &[u8]) -> Result<Map, Refusal>
     let Some(first) = reader.next() else {
         return Err(Refusal::Record(reader.index()));
     };
-    let Some(mut map) = open_map(first) else {
+    let Some(mut map) = opened(first) else {
         return Err(Refusal::Record(reader.index()));
     };
     while let Some(record) = reader.next() {
-        if !join(&mut map, record) {
+        if !joined(&mut map, record) {
             return Err(Refusal::Record(reader.index()));
         }
     }

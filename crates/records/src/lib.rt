@@ -5,6 +5,6 @@ mod building;
 mod fields;
 mod reading;
 
-pub use building::{build, join, open_map};
+pub use building::{build, joined, opened};
 pub use fields::Record;
 pub use reading::{MOST_BYTES, Reader, check_length};

@@ -1,17 +1,15 @@
 -- The smallest slot that is not taken, and what deciding makes.
-use Rattle.std.proofs.Common.{◌≡◌, ℕ, zero, suc, ◌+◌, ◌<◌, ◌≤◌, Bool, true, false, cond, ltb, ◌⊎◌, List, sym, ap, ◌∙◌, ap₂, inl, inr, add-one, arith}
-use Rattle.std.proofs.lemmas.Bool.{cond-true, cond-false, lt-ltb, le-ltb, cases_Bool}
+use Rattle.std.proofs.Common.{◌≡◌, ℕ, zero, suc, ◌+◌, ◌<◌, Bool, true, false, cond, ltb, sym, ap, ◌∙◌, ap₂, add-one, arith}
+use Rattle.std.proofs.lemmas.Bool.{cond-true, cond-false, lt-ltb, le-ltb}
 use Rattle.marks.specs.declared.Marks.{Marks}
 use Rattle.marks.specs.View.{marked}
-use Rattle.map.specs.declared.Map.{Map}
 use Rattle.map.specs.View.{nodes}
-use Rattle.radio.specs.declared.message.Message.{Message}
 use Rattle.radio.specs.Ways.{Ways, puts}
 use Rattle.schedule.specs.Rand.{first_from}
 use Rattle.schedule.proofs.Slots.{first_is}
 use Rattle.rig.specs.declared.Rig.{Rig}
 use Rattle.rig.specs.Calm.{at}
-use Rattle.rig.specs.Board.{Board, put, decided_count}
+use Rattle.rig.specs.Board.{put, decided_count}
 use Rattle.rig.specs.Made.{Made}
 use Rattle.rig.specs.Steps.{lowest, decided, release, to_all, gave_up, fail_all, settled, settled_sent}
 

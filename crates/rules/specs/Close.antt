@@ -1,6 +1,6 @@
 -- Laws of the link rule that its impl has to show: the test says what the relation says, it is mutual, and no place clashes with itself.
 -- There is nothing to believe here: each line is proved.
-use Rattle.std.specs.Prelude.{◌≡◌, ℕ, ◌<◌, Bool, true, false, not, ◌&&◌, ◌||◌, ◌⊎◌, List, length, Decides, ◌==◌}
+use Rattle.std.specs.Prelude.{◌≡◌, ℕ, true, false, ◌⊎◌, List, length, Decides, ◌==◌}
 use Rattle.std.proofs.Math.Path.{refl}
 use Rattle.std.proofs.Common.{sym, ap, ◌∙◌}
 use Rattle.std.proofs.Math.Logic.{inl, inr}
@@ -8,7 +8,7 @@ use Rattle.std.proofs.lemmas.Bool.{cases_Bool}
 use Rattle.std.proofs.lemmas.Bool.Decides.{Decides-eqb, Decides-ltb, Decides-not, Decides-and, Decides-or, Decides-like, same_from_decides}
 use Rattle.map.specs.View.{linked, Linked}
 use Rattle.map.specs.declared.Map.{Map}
-use Rattle.rules.specs.Pairs.{pair_at, End, Close, LinkClash, near, close, link_clash}
+use Rattle.rules.specs.Pairs.{pair_at, Close, LinkClash, near, close, link_clash}
 
 module _ (m : Map) where
   Near : ℕ → ℕ → Type 0

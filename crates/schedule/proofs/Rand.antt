@@ -1,8 +1,8 @@
 -- RAND's steps and RAND's relation agree, the relation has one solution, and what follows for every rule.
-use Rattle.std.proofs.Common.{◌≡◌, ℕ, zero, suc, ◌+◌, ◌<◌, ◌≤◌, Bool, true, false, cond, ◌&&◌, eqb, ◌⊎◌, List, [], ◌∷◌, ◌++◌, length, get_or, take, sym, refl, ap, ◌∙◌, subst, inl, inr, arith}
+use Rattle.std.proofs.Common.{◌≡◌, ℕ, zero, suc, ◌+◌, ◌<◌, ◌≤◌, Bool, true, false, ◌&&◌, eqb, ◌⊎◌, List, [], ◌∷◌, ◌++◌, length, get_or, take, sym, refl, ap, ◌∙◌, subst, inl, inr, arith}
 use Rattle.std.proofs.lemmas.List.{take_more, take_all}
 use Rattle.std.proofs.lemmas.Bool.{both_ways, eq-eqb, ne_eqb, eqb-true, cases_eq, cases_order, and_parts, and_from, cond-true, cond-false}
-use Rattle.marks.specs.Below.{some_below, count_below}
+use Rattle.marks.specs.Below.{some_below}
 use Rattle.schedule.specs.Rand.{holds, least, put, from, rand, Fine, Named, Held, Smallest, IsRand, RandLaw, ahead}
 use Rattle.schedule.proofs.Slots.{some_find, some_at, crowd, least-free, least-below, least-slot}
 

@@ -1,6 +1,6 @@
 -- Slots that are held and slots that are free: the smallest free slot, and as many items as slots held.
 use Rattle.std.proofs.Common.{◌≡◌, ℕ, zero, suc, ◌+◌, ◌<◌, ◌≤◌, Bool, true, false, cond, ◌&&◌, ◌||◌, eqb, ◌⊎◌, sym, refl, ap, ◌∙◌, ap₂, inl, inr, ⊎_elim, arith}
-use Rattle.std.proofs.lemmas.Bool.{ne_eqb, cases_eq, cases_Bool, and_right}
+use Rattle.std.proofs.lemmas.Bool.{ne_eqb, cases_eq, cases_Bool}
 use Rattle.marks.specs.Below.{some_below, sum_below, count_below}
 use Rattle.marks.proofs.Below.{some-decides, count_le}
 use Rattle.schedule.specs.Rand.{first_from, holds, least}

@@ -7,7 +7,7 @@ ghost use Rattle.script.specs.Steps.{Follows, SetUp, fits};
 
 use crate::events::seed;
 use crate::{Event, Script};
-use records::{Reader, check_length, join, open_map};
+use records::{Reader, check_length, joined, opened};
 use refusal::Refusal;
 
 // What a job may bring next, besides an event.
@@ -47,7 +47,7 @@ impl Draft {
             }
             _ => {
                 self.stage = Stage::Links;
-                join(&mut self.script.map, bytes)
+                joined(&mut self.script.map, bytes)
             }
         }
     }
@@ -60,7 +60,7 @@ fn judged(reader: &mut Reader) -> Option<Script>
     ensures { MatchOption result (FirstUnfit (good reader.old.job.now) (records reader.old.job.now) (reader.new.place - 1)) (SetUp reader.old.job.now) }
 {
     let first = reader.next()?;
-    let map = open_map(first)?;
+    let map = opened(first)?;
     let mut draft = Draft {
         script: Script { map, seed: None },
         stage: Stage::Second,

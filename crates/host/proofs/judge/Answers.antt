@@ -1,4 +1,4 @@
-use Rattle.std.proofs.Common.{◌≡◌, ℕ, ◌<◌, ◌≤◌, length, get_or, subst, arith}
+use Rattle.std.proofs.Common.{◌≡◌, ℕ, ◌<◌, length, get_or, subst, arith}
 use Rattle.map.specs.View.{nodes, contend}
 use Rattle.map.specs.declared.Map.{Map}
 use Rattle.schedule.specs.Sharing.{Checked}

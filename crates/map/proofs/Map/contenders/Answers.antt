@@ -1,4 +1,4 @@
-use Rattle.std.proofs.Common.{◌≡◌, ℕ, Bool, ◌||◌, Decides, sym, ap, ◌∙◌, subst}
+use Rattle.std.proofs.Common.{ℕ, Bool, ◌||◌, Decides, sym, ap, ◌∙◌, subst}
 use Rattle.marks.specs.View.{marked}
 use Rattle.marks.specs.declared.Marks.{Marks}
 use Rattle.map.specs.View.{linked, Contend}

@@ -1,7 +1,7 @@
-use Rattle.std.proofs.Common.{◌≡◌, ℕ, suc, ◌+◌, ◌*◌, ◌≤◌, refl, ap, ◌∙◌, arith}
+use Rattle.std.proofs.Common.{◌≡◌, refl, ap, arith}
 use Rattle.marks.specs.Below.{sum_below}
 use Rattle.marks.proofs.Below.{sum_more}
-use Rattle.map.specs.View.{degree, link_count, nodes}
+use Rattle.map.specs.View.{degree, nodes}
 use Rattle.map.proofs.Counts.{twice_links, degree_le}
 use Rattle.map.proofs.Map.links.Goals as goal
 

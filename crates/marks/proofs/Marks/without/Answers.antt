@@ -1,4 +1,4 @@
-use Rattle.std.proofs.Common.{◌≡◌, ◌^◌, ◌<◌, sym, arith}
+use Rattle.std.proofs.Common.{◌^◌, ◌<◌, sym, arith}
 use Rattle.marks.specs.View.{bit}
 use Rattle.marks.proofs.Digits.{bit_below, bit_without, without_lt}
 use Rattle.marks.proofs.Sets.{is_collect, and_not_none}

@@ -13,36 +13,36 @@ returns-in_default c =
           refl c.new-reader.ensures.job c.new-reader.ensures.place k.value k.place c.index.ensures),
     )
 
-pub returns-in_default-open_map : goal.returns-in_default-open_map
-returns-in_default-open_map c =
+pub returns-in_default-opened : goal.returns-in_default-opened
+returns-in_default-opened c =
     let k = c.in-Some.ensures in (
       sym c.in_ok-check_length.ensures,
       first-bad c.args.job.now c.new-reader.result.job.now c.in-Some.first.now c.new-reader.result.place c.next.new.self.place
-          c.new-reader.ensures.job k.value k.place c.index-in_default-open_map.result c.new-reader.ensures.place c.in_default-open_map.ensures c.index-in_default-open_map.ensures,
+          c.new-reader.ensures.job k.value k.place c.index-in_default-opened.result c.new-reader.ensures.place c.in_default-opened.ensures c.index-in_default-opened.ensures,
     )
 
 pub loop-record-init : goal.loop-record-init
 loop-record-init c =
     let k = c.in-Some.ensures in
-    let o = c.in-Some-open_map.ensures in
+    let o = c.in-Some-opened.ensures in
     first_good c.args.job.now c.new-reader.result.job.now c.in-Some.first.now c.new-reader.result.place c.next.new.self.place
-    c.new-reader.ensures.job k.value k.place c.next.new.self.job.now (net c.in-Some-open_map.map) k.job c.new-reader.ensures.place o.0 o.1
+    c.new-reader.ensures.job k.value k.place c.next.new.self.job.now (net c.in-Some-opened.map) k.job c.new-reader.ensures.place o.0 o.1
 
-pub returns-then-not-join : goal.returns-then-not-join
-returns-then-not-join c =
+pub returns-then-not-joined : goal.returns-then-not-joined
+returns-then-not-joined c =
     let k = c.in-Some-next.ensures in (
       sym c.in_ok-check_length.ensures,
       next_bad c.args.job.now c.loop-record.reader.job.now c.in-Some-next.record.now c.loop-record.reader.place c.next-in-loop-record.new.self.place
-          c.loop-record.invariant.same k.value k.place (net c.loop-record.map) c.loop-record.invariant c.index-then-not-join.result
-          c.if-not-join.ensures.answer c.index-then-not-join.ensures,
+          c.loop-record.invariant.same k.value k.place (net c.loop-record.map) c.loop-record.invariant c.index-then-not-joined.result
+          c.if-not-joined.ensures.answer c.index-then-not-joined.ensures,
     )
 
 pub loop-record-preserved : goal.loop-record-preserved
 loop-record-preserved c =
     let k = c.in-Some-next.ensures in
     next_good c.args.job.now c.loop-record.reader.job.now c.in-Some-next.record.now c.loop-record.reader.place c.next-in-loop-record.new.self.place
-    c.loop-record.invariant.same k.value k.place (net c.loop-record.map) c.loop-record.invariant c.next-in-loop-record.new.self.job.now (net c.join.new.map)
-    k.job c.if-not-join.ensures.answer c.if-not-join.ensures.after
+    c.loop-record.invariant.same k.value k.place (net c.loop-record.map) c.loop-record.invariant c.next-in-loop-record.new.self.job.now (net c.joined.new.map)
+    k.job c.if-not-joined.ensures.answer c.if-not-joined.ensures.after
 
 pub returns : goal.returns
 returns c =

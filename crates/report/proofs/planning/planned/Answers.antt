@@ -1,4 +1,4 @@
-use Rattle.std.proofs.Common.{◌≡◌, ℕ, ◌-◌, ◌<◌, length, get_or, take, replicate, ◌∙◌, arith, length-take, get_or-take}
+use Rattle.std.proofs.Common.{◌≡◌, ◌-◌, length, take, replicate, ◌∙◌, arith, length-take, get_or-take}
 use lib.ListN.{length-replicate}
 use Rattle.map.specs.View.{nodes}
 use Rattle.report.proofs.Plans.{plan-rising, zeros}

@@ -1,4 +1,4 @@
-use Rattle.std.proofs.Common.{◌≡◌, ◌≤◌, refl, ap, ◌∙◌, arith}
+use Rattle.std.proofs.Common.{◌≡◌, refl, ap, ◌∙◌, arith}
 use Rattle.marks.specs.Below.{sum_below}
 use Rattle.marks.proofs.Below.{sum_more}
 use Rattle.map.specs.View.{nodes, contend, contender_count}

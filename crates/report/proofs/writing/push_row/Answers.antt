@@ -1,4 +1,4 @@
-use Rattle.std.proofs.Common.{◌≡◌, ℕ, List, [], ◌∷◌, ◌++◌, decimal, ap, ◌∙◌, ap₂}
+use Rattle.std.proofs.Common.{◌≡◌, ℕ, [], ◌∷◌, ◌++◌, decimal, ◌∙◌, ap₂}
 use Rattle.map.specs.View.{degree, contender_count}
 use Rattle.text.specs.Written.{written, clip, line_end}
 use Rattle.text.proofs.Clip.{and_then}

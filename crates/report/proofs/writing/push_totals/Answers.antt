@@ -1,4 +1,4 @@
-use Rattle.std.proofs.Common.{◌≡◌, ℕ, List, [], ◌∷◌, ◌++◌, codes, ap, ◌∙◌, ap₂}
+use Rattle.std.proofs.Common.{ℕ, [], ◌∷◌, ◌++◌, codes, ap, ◌∙◌, ap₂}
 use Rattle.map.specs.View.{nodes, link_count}
 use Rattle.text.specs.Written.{written, clip, spaced}
 use Rattle.text.proofs.Clip.{and_then}

@@ -1,6 +1,6 @@
-use Rattle.std.proofs.Common.{◌≡◌, ℕ, ◌+◌, Bool, true, false, cond, not, ◌&&◌, length, sym, ap, ◌∙◌, arith}
+use Rattle.std.proofs.Common.{◌≡◌, ℕ, ◌+◌, Bool, true, false, not, ◌&&◌, length, sym, ap, ◌∙◌, arith}
 use Rattle.marks.specs.View.{marked}
-use Rattle.map.specs.View.{linked, nodes}
+use Rattle.map.specs.View.{nodes}
 use Rattle.rig.specs.Calm.{at}
 use Rattle.rig.specs.Board.{each}
 use Rattle.rig.specs.Steps.{request, unmarked}

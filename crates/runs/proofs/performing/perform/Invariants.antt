@@ -1,4 +1,4 @@
-use Rattle.std.proofs.Common.{◌≡◌, ◌≤◌, length, take, drop}
+use Rattle.std.proofs.Common.{◌≡◌, ◌≤◌, take, drop}
 use Rattle.runs.proofs.Onward.{Reached}
 use Rattle.runs.proofs.performing.perform.Given as goal
 

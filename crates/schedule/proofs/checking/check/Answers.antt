@@ -1,4 +1,4 @@
-use Rattle.std.proofs.Common.{◌≡◌, ℕ, ◌≤◌, arith}
+use Rattle.std.proofs.Common.{◌≡◌, arith}
 use Rattle.schedule.proofs.Accept.{clear_alone, largest_same}
 use Rattle.schedule.proofs.checking.check.Goals as goal
 

@@ -1,4 +1,4 @@
-use Rattle.std.proofs.Common.{◌≡◌, ℕ, ◌+◌, ◌%◌, List, [], ◌∷◌, ◌++◌, ap, ◌∙◌, arith}
+use Rattle.std.proofs.Common.{◌≡◌, ◌+◌, ◌%◌, [], ◌∷◌, ◌++◌, ap, ◌∙◌, arith}
 use Rattle.text.specs.Written.{written, clip}
 use Rattle.text.specs.declared.Text.{Text}
 use Rattle.text.proofs.Lines.{digit_last, digit_only}

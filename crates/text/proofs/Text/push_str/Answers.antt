@@ -1,4 +1,4 @@
-use Rattle.std.proofs.Common.{◌≡◌, ℕ, List, ◌++◌, ap, ◌∙◌, arith, length-take, take_all}
+use Rattle.std.proofs.Common.{ℕ, List, ◌++◌, ap, ◌∙◌, arith, length-take, take_all}
 use Rattle.text.specs.Written.{written, clip}
 use Rattle.text.proofs.Clip.{none_yet}
 use Rattle.text.proofs.Lines.{byte_more}

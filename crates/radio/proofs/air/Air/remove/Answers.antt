@@ -1,4 +1,4 @@
-use Rattle.std.proofs.Common.{◌≡◌, ℕ, ◌-◌, ◌<◌, ◌≤◌, length, subst, arith, length-take}
+use Rattle.std.proofs.Common.{◌≡◌, ℕ, ◌-◌, subst, arith, length-take}
 use Rattle.radio.specs.Waiting.{waiting}
 use Rattle.radio.specs.Places.{Moved, removed-past, moved_none, moved_more, moved_all}
 use Rattle.radio.proofs.air.Air.remove.Goals as goal

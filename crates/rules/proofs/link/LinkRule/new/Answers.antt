@@ -1,4 +1,4 @@
-use Rattle.std.proofs.Common.{◌≡◌, sym, ◌∙◌, below_more}
+use Rattle.std.proofs.Common.{sym, below_more}
 use Rattle.rules.proofs.link.LinkRule.new.Goals as goal
 
 pub loop-pair-preserved : goal.loop-pair-preserved

@@ -1,6 +1,6 @@
-use Rattle.std.proofs.Common.{◌≡◌, ℕ, ◌<◌, ◌≤◌, false, ◌⊎◌, sym, ◌∙◌, inl, inr, ⊎_elim, arith}
+use Rattle.std.proofs.Common.{◌≡◌, ℕ, ◌≤◌, false, ◌⊎◌, sym, ◌∙◌, inl, inr, ⊎_elim, arith}
 use Rattle.std.proofs.lemmas.Bool.Decides.{same_from_decides}
-use Rattle.map.specs.View.{nodes, contend}
+use Rattle.map.specs.View.{contend}
 use Rattle.map.specs.declared.Map.{Map}
 use Rattle.map.proofs.Contends.{contend-decides, contend_mutual, contend-past}
 use Rattle.rules.proofs.node.making.NodeRuleClashRule.clashes.Goals as goal
