@@ -22,7 +22,7 @@ use Rattle.drive.specs.Sure.{Sure}
 use Rattle.drive.proofs.Airs.{Out, length-tally, takes_out, goes_into}
 use Rattle.drive.proofs.Alone.{Only}
 use Rattle.drive.proofs.Comes.{Went, request_comes, release_comes}
-use Rattle.drive.proofs.Episode.{hits, wait, cost, work, Word, asked, given, told, Episode, Busy}
+use Rattle.drive.proofs.Episode.{hits, cost, work, Word, asked, given, told, Episode, Busy}
 use Rattle.drive.proofs.Grants.{grant_comes}
 use Rattle.drive.proofs.Hits.{hits_off, length_hits, wait_small, cost_small, wait_is, cost_is, sum-none}
 use Rattle.drive.proofs.Moves.{inside, word_about}

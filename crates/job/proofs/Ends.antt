@@ -1,5 +1,5 @@
 -- The end of a job: what its nodes can hold, its largest slot, and what is answered.
-use Rattle.std.proofs.Common.{◌≡◌, ℕ, ◌+◌, ◌<◌, ◌≤◌, max, List, [], ◌∷◌, length, Some, None, Ok, Option, sym, ap, ◌∙◌, subst, ap₂, add-one, arith}
+use Rattle.std.proofs.Common.{◌≡◌, ℕ, ◌+◌, ◌<◌, max, List, [], length, Some, None, Ok, Option, sym, ap, ◌∙◌, subst, ap₂, add-one}
 use Rattle.marks.specs.Below.{max_below}
 use Rattle.map.specs.View.{nodes, net}
 use Rattle.map.specs.declared.Map.{Map}

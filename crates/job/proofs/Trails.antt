@@ -1,9 +1,9 @@
 -- The events of a job make a run.
-use Rattle.std.proofs.Common.{◌≡◌, ℕ, zero, suc, ◌+◌, ◌<◌, ◌≤◌, Bool, true, false, cond, ◌⊎◌, List, [], ◌∷◌, ◌++◌, map, length, get_or, replicate, Ok, Result, sym, refl, ap, ◌∙◌, subst, ap₂, inl, inr, append_assoc, append-nil, arith}
+use Rattle.std.proofs.Common.{◌≡◌, ℕ, zero, suc, ◌+◌, ◌<◌, Bool, true, false, cond, ◌⊎◌, List, [], ◌∷◌, ◌++◌, map, length, get_or, replicate, Ok, Result, sym, refl, ap, subst, inl, inr, append_assoc, append-nil, arith}
 use Rattle.refusal.specs.declared.Refusal.{Refusal}
 use Rattle.map.specs.declared.Map.{Map}
 use Rattle.radio.specs.Ways.{Ways, AirRule}
-use Rattle.rig.specs.Board.{Board, new_board}
+use Rattle.rig.specs.Board.{new_board}
 use Rattle.rig.specs.Steps.{delivered, drawn, nudged}
 use Rattle.law.specs.declared.Call.{Call}
 use Rattle.law.specs.declared.Call.TheVariants.{Draw, Deliver, Nudge}

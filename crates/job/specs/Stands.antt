@@ -1,5 +1,5 @@
 -- A rig in play over a radio, as values; for inner functions, no public contract rests on it.
-use Rattle.std.specs.Prelude.{ℕ, ◌≤◌}
+use Rattle.std.specs.Prelude.{◌≤◌}
 use Rattle.script.specs.declared.Event.{Event}
 use Rattle.script.specs.declared.Event.TheVariants.{Draw, Deliver, Nudge}
 use Rattle.job.specs.declared.playing.Play.{Play}

@@ -1,4 +1,4 @@
-use Rattle.std.proofs.Common.{ℕ, List, ap, ◌∙◌, arith}
+use Rattle.std.proofs.Common.{◌∙◌, arith}
 use Rattle.records.proofs.Fronts.{was, moved}
 use Rattle.job.specs.Stands.{stand}
 use Rattle.job.proofs.Turns.{record_none, record_more}

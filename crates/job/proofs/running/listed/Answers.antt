@@ -1,6 +1,4 @@
-use Rattle.std.proofs.Common.{sym}
 use Rattle.text.specs.Written.{written}
-use Rattle.radio.specs.Waiting.{waiting}
 use Rattle.job.proofs.Ends.{over_coin, over_queue}
 use Rattle.job.proofs.running.listed.Goals as goal
 

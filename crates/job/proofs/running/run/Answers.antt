@@ -1,6 +1,4 @@
-use Rattle.std.proofs.Common.{ℕ, List, ◌++◌, length, drop, sym, ap, ◌∙◌, ap₂, arith}
-use Rattle.text.specs.Written.{written}
-use Rattle.job.specs.Listing.{listed}
+use Rattle.std.proofs.Common.{ℕ, List, ◌++◌, length, drop, sym, ap, ◌∙◌, ap₂}
 use Rattle.job.proofs.running.run.Goals as goal
 
 pub returns : goal.returns
