@@ -4,7 +4,7 @@ usage: python3 tools/respell.py [--table]     at the top of the repository
 
 A name is turned where a file of specs/ or proofs/ declares it, and then wherever it stands:
   afterPut   becomes after_put, a word of several words;
-  sum-more   becomes sum_more; a dash stays between two names that are defined, as in marked-collect;
+  sum-more   becomes sum_more; a dash stays between two names that the statement itself has, as in marked-collect;
   why        becomes Why, since it is a fact.
 A name that would fall together with another one, ours or the library's, keeps its dash and is printed. Goals, which Rattle names,
 functions of src/, strings and words of comments that are no names stay. --table prints old and new, and writes nothing. A second
@@ -16,6 +16,7 @@ import re
 import sys
 
 WORD = re.compile(r'[^\s(){}.;,:@"«»\[\]`|]+')
+OTHER = r'[\s(){};,:@"«»\[\]`|]+'
 COMMENT = re.compile(r"(?<![^\s(){}.;,])--[^\n]*")
 DECLARED = re.compile(r"^(\s*)((?:abbrev |unfoldable |pub )*)([^\s(){}.;,:]+) : (.*)$")
 TYPE = re.compile(r"^\s*(?:abbrev |unfoldable |pub )*(?:record|data) ([^\s(){}.;,:]+)")
@@ -44,25 +45,27 @@ def snake(name):
 
 
 def declared():
-    """The names that specs/ and proofs/ declare, and those of them that specs/ defines."""
-    ours, defined = set(), set(KNOWN)
+    """The names that specs/ and proofs/ declare, each with its statements, and those of them that specs/ defines."""
+    ours, defined = {}, set(KNOWN)
     for path in files(".antt"):
         text = read(path)
         for line in text.split("\n"):
             found = DECLARED.match(line)
             if found and not found.group(4).startswith("goal."):
-                ours.add(found.group(3))
+                ours.setdefault(found.group(3), []).append(found.group(4))
                 if "/specs/" in path:
                     defined.add(snake(found.group(3)) if CAMEL.match(found.group(3)) else found.group(3))
             found = TYPE.match(line)
             if found:
-                ours.add(found.group(1))
+                ours.setdefault(found.group(1), [])
     for path in files(".antt", ".rt"):
         # a name that a file gives to what it imports
-        ours.update(re.findall(r"[{ ]\S+ as (\w+)[,}]", read(path)))
+        for name in re.findall(r"[{ ]\S+ as (\w+)[,}]", read(path)):
+            ours.setdefault(name, [])
     for path in files(".rt"):
         # ghost members and laws of a trait
-        ours.update(re.findall(r"^    ghost (\w+)(?::| = )", read(path), re.M))
+        for name in re.findall(r"^    ghost (\w+)(?::| = )", read(path), re.M):
+            ours.setdefault(name, [])
     return ours, defined
 
 
@@ -75,7 +78,7 @@ def borrowed():
     return names
 
 
-def respelled(name, defined):
+def respelled(name, statements, defined):
     if name in FACTS:
         return FACTS[name]
     if CAMEL.match(name):
@@ -83,7 +86,8 @@ def respelled(name, defined):
     if "-" not in name or not re.match(r"^[A-Za-z]", name):
         return name
     parts = [snake(p) if CAMEL.match(p) else FACTS.get(p, p) for p in name.split("-")]
-    if parts[0] in FACTS.values() or (len(parts) == 2 and all(p in defined for p in parts)):
+    words = {snake(w) if CAMEL.match(w) else w for s in statements for w in re.split(r"[.]|" + OTHER, s)}
+    if parts[0] in FACTS.values() or (len(parts) == 2 and all(p in defined and p in words for p in parts)):
         return "-".join(parts)
     return "_".join(parts)
 
@@ -92,8 +96,8 @@ def table():
     ours, defined = declared()
     library = borrowed()
     turned = {}
-    for name in sorted(ours - library, key=lambda n: (not CAMEL.match(n), n)):
-        new = respelled(name, defined)
+    for name in sorted(set(ours) - library, key=lambda n: (not CAMEL.match(n), n)):
+        new = respelled(name, ours[name], defined)
         if new == name:
             continue
         if new in library or new in ours or new in turned.values():

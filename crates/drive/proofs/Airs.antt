@@ -2,7 +2,7 @@
 use Rattle.std.proofs.Common.{◌≡◌, ◌+◌, ◌<◌, ◌≤◌, Bool, true, cond, ◌⊎◌, List, [], ◌∷◌, length, Some, refl, arith}
 use Rattle.radio.specs.Ways.{Ways, AirRule, In, puts}
 use Rattle.radio.specs.declared.message.Message.{Message}
-use Rattle.radio.proofs.Puts.{puts-air}
+use Rattle.radio.proofs.Puts.{puts_air}
 use Rattle.drive.specs.Sure.{tally, Sure}
 
 -- x comes out of xs, and ys are left
@@ -42,4 +42,4 @@ module _ {S : Type 0} (w : Ways S) (rule : AirRule w) (sure : Sure w) where
       omega arith
 
   pub goes_into : (s : S) (sent : List Message) → length (w.air s) + length sent ≤ 256 → Into (w.air s) sent (w.air (puts w s sent))
-  goes_into s sent l = record { cases = puts-air w rule s sent; counts = λ p. puts-tally p s sent l }
+  goes_into s sent l = record { cases = puts_air w rule s sent; counts = λ p. puts-tally p s sent l }

@@ -7,7 +7,7 @@ use Rattle.rig.specs.Calm.{at}
 use Rattle.rig.specs.Board.{Board}
 use Rattle.law.specs.Runs.{decides, deciders}
 use Rattle.law.proofs.Law.{stays_put}
-use Rattle.law.proofs.Ranks.{each_none, each-one}
+use Rattle.law.proofs.Ranks.{each_none, each_one}
 
 -- no other node's slot or round alters, and a that has decided stays so
 pub record Only (a : ℕ) (b b' : Board) : Type 0 where
@@ -34,7 +34,7 @@ module _ (m : Map) (a : ℕ) (in_a : a < nodes m) where
   decide_only b b' o = go (decides b b' a) refl
     where
       go : (v : Bool) → decides b b' a ≡ v → deciders m b b' ≡ cond v (a ∷ []) []
-      go true e = each-one (decides b b') (λ k. k) (nodes m) a in_a e (λ i d. stays_put b b' i (o.slots i d))
+      go true e = each_one (decides b b') (λ k. k) (nodes m) a in_a e (λ i d. stays_put b b' i (o.slots i d))
       go false e = each_none (decides b b') (λ k. k) (nodes m) (λ i _. ⊎_elim (λ d. ap (decides b b') d ∙ e) (λ d. stays_put b b' i (o.slots i d)) (cases_eq i a))
 
   still : (b b' : Board) → Only a b b' → eqb (at b a).slot 0 ≡ false → eqb (at b' a).slot 0 ≡ false

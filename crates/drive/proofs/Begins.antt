@@ -14,7 +14,7 @@ use Rattle.map.specs.declared.Map.{Map}
 use Rattle.schedule.proofs.Slots.{some_find, some_at, first_is}
 use Rattle.radio.specs.Ways.{Ways, AirRule, In, puts}
 use Rattle.radio.specs.declared.message.Message.{Message}
-use Rattle.radio.proofs.Puts.{puts-air}
+use Rattle.radio.proofs.Puts.{puts_air}
 use Rattle.rig.specs.declared.Lottery.{Lottery}
 use Rattle.rig.specs.declared.Lottery.TheVariants.{Asked, Decided}
 use Rattle.rig.specs.declared.node.Node.{Node}
@@ -23,9 +23,9 @@ use Rattle.rig.specs.Calm.{at, is_request, is_grant}
 use Rattle.rig.specs.Board.{Board, put, decided_count}
 use Rattle.rig.specs.Steps.{After, request, release, asking, decided, freed, lowest, slot_for, settled, settled_sent, gave_up, fail_all, to_all, wins, won, drawn}
 use Rattle.rig.proofs.Calms.{at-put, at_other}
-use Rattle.rig.proofs.Rows.{each-most}
+use Rattle.rig.proofs.Rows.{each_most}
 use Rattle.law.proofs.Boards.{Fine}
-use Rattle.law.proofs.Draws.{good-drawn}
+use Rattle.law.proofs.Draws.{good_drawn}
 use Rattle.law.proofs.Sends.{each_in}
 use Rattle.drive.specs.Settling.{Rests}
 use Rattle.drive.specs.Sure.{Sure}
@@ -33,16 +33,16 @@ use Rattle.drive.proofs.Airs.{Into, goes_into}
 use Rattle.drive.proofs.Alone.{Only}
 use Rattle.drive.proofs.Episode.{about, cost, work, asked, Episode, Busy}
 use Rattle.drive.proofs.Hits.{hits_each, wait_is, cost_is}
-use Rattle.drive.proofs.Moves.{freed-release, apart, inside}
+use Rattle.drive.proofs.Moves.{freed_release, apart, inside}
 
 lowest-none : lowest none ≡ 0
 unfolding lowest
 lowest-none = sym (first_is (marked none) 0 0 64 (λ t p q. absurd (let z : ⊥ = omega arith in z)) (marked-none 0) (omega arith) (omega arith))
 
-three-each : (p : ℕ → Bool) (n : ℕ) → sum_below (λ i. cond (p i) 3 0) n ≡ 3 * count_below p n
+three_each : (p : ℕ → Bool) (n : ℕ) → sum_below (λ i. cond (p i) 3 0) n ≡ 3 * count_below p n
 unfolding sum_below
-three-each p zero = omega arith
-three-each p (suc n) = let e = three-each p n in let c = one (p n) in omega arith
+three_each p zero = omega arith
+three_each p (suc n) = let e = three_each p n in let c = one (p n) in omega arith
   where
     one : (v : Bool) → ◌≡◌ {A = ℕ} (cond v 3 0) (3 * cond v 1 0)
     one true = omega arith
@@ -51,7 +51,7 @@ three-each p (suc n) = let e = three-each p n in let c = one (p n) in omega arit
 -- three deliveries are to come for each neighbour
 work_three : (m : Map) (a : ℕ) (nd : ℕ → Node) → ((k : ℕ) → linked m a k ≡ true → cost (nd a) k (nd k) ≡ 3) → work m a nd ≡ 3 * degree m a
 work_three m a nd h =
-    sum_like (λ k. cond (linked m a k) (cost (nd a) k (nd k)) 0) (λ k. cond (linked m a k) 3 0) (nodes m) (λ k _. at_each k (linked m a k) refl) ∙ three-each (linked m a) (nodes m)
+    sum_like (λ k. cond (linked m a k) (cost (nd a) k (nd k)) 0) (λ k. cond (linked m a k) 3 0) (nodes m) (λ k _. at_each k (linked m a k) refl) ∙ three_each (linked m a) (nodes m)
   where
     at_each : (k : ℕ) (v : Bool) → linked m a k ≡ v → cond v (cost (nd a) k (nd k)) 0 ≡ cond v 3 0
     at_each k true l = h k l
@@ -62,7 +62,7 @@ module _ (m : Map) (b : Board) (fine : Fine m b) (rests : (k : ℕ) → Rests (a
   calm k = ⊎_elim (λ (p, _, _). (ap is_request p, ap is_grant p)) (λ (p, _). (ap is_request p, ap is_grant p)) (rests k)
 
   proper : (k : ℕ) → (at b k).phase ≡ (freed (at b k)).phase
-  proper k = ⊎_elim (λ (p, z, _). p ∙ sym (cond-true (eqb (at b k).slot 0) _ _ (eq-eqb (at b k).slot 0 z))) (λ (p, l). freed-release (at b k) p l) (rests k)
+  proper k = ⊎_elim (λ (p, z, _). p ∙ sym (cond-true (eqb (at b k).slot 0) _ _ (eq-eqb (at b k).slot 0 z))) (λ (p, l). freed_release (at b k) p l) (rests k)
 
   fresh : (at b a).round ≡ 0
   fresh = ⊎_elim (λ (_, _, q). q) (λ (_, l). absurd (let z : ⊥ = omega arith in z)) (rests a)
@@ -102,8 +102,8 @@ module _ (m : Map) (b : Board) (fine : Fine m b) (rests : (k : ℕ) → Rests (a
   -- a has neighbours
 
   module _ (some : some_below (linked m a) (nodes m) ≡ true) where
-    abbrev asking-all : List Message
-    asking-all = to_all m a (request round a)
+    abbrev asking_all : List Message
+    asking_all = to_all m a (request round a)
 
     asks_q : (at opened a).phase ≡ Request
     asks_q = ap (λ (v : Node). v.phase) opened_a
@@ -117,7 +117,7 @@ module _ (m : Map) (b : Board) (fine : Fine m b) (rests : (k : ℕ) → Rests (a
     asks_self : is_grant (at opened a).phase ≡ false
     asks_self = ap (λ (v : Node). is_grant v.phase) opened_a
 
-    asks_episode : (zs : List Message) → Into [] asking-all zs → Episode m a round (at opened) zs
+    asks_episode : (zs : List Message) → Into [] asking_all zs → Episode m a round (at opened) zs
     asks_episode zs into = record {
       round = ap (λ (v : Node). v.round) opened_a;
       self = asks_self;
@@ -139,12 +139,12 @@ module _ (m : Map) (b : Board) (fine : Fine m b) (rests : (k : ℕ) → Rests (a
       marks = λ _ i _ h. absurd (both_ways (marked (at opened a).granted i) (asks_n i) h);
     }
 
-    asks : Begun (record { board = opened; sent = asking-all; answer = Ok Asked })
+    asks : Begun (record { board = opened; sent = asking_all; answer = Ok Asked })
     asks = record {
       episode = asks_episode;
       thrice = work_three m a (at opened) (λ i l. cost_is (at opened a) i (at opened i) true false false (ap is_request asks_q) (asks_n i) (asks_g i (apart m a i l)));
       only = record { slots = λ i d. ap (λ (v : Node). v.slot) (opened_i i d); rounds = λ i d. ap (λ (v : Node). v.round) (opened_i i d); stays = λ h. absurd (let z : ⊥ = omega arith in z) };
-      few = let l = each-most (linked m a) (request round a) (nodes m) in let s = m.most in omega arith;
+      few = let l = each_most (linked m a) (request round a) (nodes m) in let s = m.most in omega arith;
     }
 
   -- a has no neighbour
@@ -185,7 +185,7 @@ module _ (m : Map) (b : Board) (fine : Fine m b) (rests : (k : ℕ) → Rests (a
       others = λ i d. ap (λ (v : Node). is_request v.phase) (end_i i d) ∙ (calm i).0;
       locks = λ i h. absurd (both_ways (is_grant (at chosen i).phase) (end_g i) h);
       proper = λ i q g. ⊎_elim
-          (λ e. subst (λ (j : ℕ). (at chosen j).phase ≡ (freed (at chosen j)).phase) (sym e) (freed-release (at chosen a) (ap (λ (v : Node). v.phase) end_a) end_slot))
+          (λ e. subst (λ (j : ℕ). (at chosen j).phase ≡ (freed (at chosen j)).phase) (sym e) (freed_release (at chosen a) (ap (λ (v : Node). v.phase) end_a) end_slot))
           (λ d. subst (λ (v : Node). v.phase ≡ (freed v).phase) (sym (end_i i d)) (proper i)) (cases_eq i a);
       words = λ y i. ⊎_elim (λ j. absurd (Memᴰ.not-nil j)) (λ j. let (k, l, _) = each_in (linked m a) (release (slot_for m opened a) (at opened a).round a) (nodes m) y j in unlinked k l) (into.cases y i);
       waits = λ i l. unlinked i l;
@@ -201,7 +201,7 @@ module _ (m : Map) (b : Board) (fine : Fine m b) (rests : (k : ℕ) → Rests (a
           episode = lone_episode;
           thrice = work_three m a (at chosen) (λ i l. unlinked i l);
           only = record { slots = λ i d. ap (λ (v : Node). v.slot) (end_i i d); rounds = λ i d. ap (λ (v : Node). v.round) (end_i i d); stays = λ _. end_slot };
-          few = let l = each-most (linked m a) (release (slot_for m opened a) (at opened a).round a) (nodes m) in let s = m.most in omega arith;
+          few = let l = each_most (linked m a) (release (slot_for m opened a) (at opened a).round a) (nodes m) in let s = m.most in omega arith;
         }))
 
   pub begun : Begun (drawn m b a 1)
@@ -209,10 +209,10 @@ module _ (m : Map) (b : Board) (fine : Fine m b) (rests : (k : ℕ) → Rests (a
 
   pub busy_first : {S : Type 0} (w : Ways S) → AirRule w → Sure w → (s : S) → w.air s ≡ [] → Busy w m a round (drawn m b a 1).board (puts w s (drawn m b a 1).sent)
   busy_first w rule sure s empty =
-      let g = good-drawn m b fine a 1 in
+      let g = good_drawn m b fine a 1 in
       record {
         fine = g.keeps.fine;
-        facts = λ y i. ⊎_elim (λ j. absurd (Memᴰ.not-nil (subst (λ (xs : List Message). In y xs) empty j))) (λ j. (g.sent y j).fact) (puts-air w rule s (drawn m b a 1).sent y i);
+        facts = λ y i. ⊎_elim (λ j. absurd (Memᴰ.not-nil (subst (λ (xs : List Message). In y xs) empty j))) (λ j. (g.sent y j).fact) (puts_air w rule s (drawn m b a 1).sent y i);
         episode = begun.episode _ (subst (λ (xs : List Message). Into xs (drawn m b a 1).sent (w.air (puts w s (drawn m b a 1).sent))) empty
             (goes_into w rule sure s (drawn m b a 1).sent (let e : length (w.air s) ≡ 0 = ap length empty in let f = begun.few in omega arith)));
       }

@@ -24,8 +24,8 @@ freed_calm : (v : Node) → (is_request (freed v).phase ≡ false) × (is_grant 
 freed_calm v = cond_both (eqb v.slot 0) Idle Release (λ p. (is_request p ≡ false) × (is_grant p ≡ false)) (λ _. (refl, refl)) (λ _. (refl, refl))
 
 -- one node altered, with its slot and round as before
-pub only-put : (a : ℕ) (b : Board) (k : ℕ) (v : Node) → k < length b → v.slot ≡ (at b k).slot → v.round ≡ (at b k).round → Only a b (put b k v)
-only-put a b k v l es er = record {
+pub only_put : (a : ℕ) (b : Board) (k : ℕ) (v : Node) → k < length b → v.slot ≡ (at b k).slot → v.round ≡ (at b k).round → Only a b (put b k v)
+only_put a b k v l es er = record {
   slots = λ i _. slot i (cases_eq i k);
   rounds = λ i _. round i (cases_eq i k);
   stays = λ h. subst (λ (x : ℕ). 0 < x) (sym (slot a (cases_eq a k))) h;
@@ -57,14 +57,14 @@ module _ (m : Map) (a r : ℕ) where
 
     -- the request comes
 
-    granted-at : (p : Phase) → is_grant p ≡ false → is_request p ≡ false → on_request m b (request r a k) p ≡ granting m b (request r a k)
-    granted-at Idle g q = refl
-    granted-at Request g q = absurd (both_ways true q refl)
-    granted-at Grant g q = absurd (both_ways true g refl)
-    granted-at Release g q = refl
+    granted_at : (p : Phase) → is_grant p ≡ false → is_request p ≡ false → on_request m b (request r a k) p ≡ granting m b (request r a k)
+    granted_at Idle g q = refl
+    granted_at Request g q = absurd (both_ways true q refl)
+    granted_at Grant g q = absurd (both_ways true g refl)
+    granted_at Release g q = refl
 
     received-request : is_grant (at b k).phase ≡ false → received m b (request r a k) ≡ granting m b (request r a k)
-    received-request g = cond-false (foreign m (request r a k)) _ _ (ap (λ (v : Bool). not v || false) link) ∙ granted-at (at b k).phase g (ep.others k far)
+    received-request g = cond-false (foreign m (request r a k)) _ _ (ap (λ (v : Bool). not v || false) link) ∙ granted_at (at b k).phase g (ep.others k far)
 
     module _ (q : (at b a).phase ≡ Request) (g : is_grant (at b k).phase ≡ false) (n : marked (at b a).granted k ≡ false) where
       abbrev asked_board : Board
@@ -110,7 +110,7 @@ module _ (m : Map) (a r : ℕ) where
       request_comes out = subst (λ (o : After ℕ). Went b ys o) (sym (received-request g)) (record {
         episode = moves m a r (at b) (at asked_board) k link (request r a k) xs ys _ out ep refl asked_moved;
         less = works m a r (at b) (at asked_board) k link (request r a k) xs ys _ out ep refl asked_moved;
-        only = only-put a b k (bound (at b k) a r) in_k refl refl;
+        only = only_put a b k (bound (at b k) a r) in_k refl refl;
         few = omega arith;
         came = (1, omega arith, refl);
       })
@@ -121,28 +121,28 @@ module _ (m : Map) (a r : ℕ) where
       abbrev heard_board : Board
       heard_board = hears m b (release (suc t) r a k)
 
-      abbrev told-board : Board
-      told-board = put heard_board k (freed (at heard_board k))
+      abbrev told_board : Board
+      told_board = put heard_board k (freed (at heard_board k))
 
       heard_long : k < length heard_board
       heard_long = let e = length-set b k (hearing (at b k) (suc t)) in let l = in_k in omega arith
 
-      told_k : at told-board k ≡ freed (at heard_board k)
+      told_k : at told_board k ≡ freed (at heard_board k)
       told_k = at-put heard_board k (freed (at heard_board k)) heard_long
 
-      told_i : (i : ℕ) → (i ≡ k → ⊥) → at told-board i ≡ at b i
+      told_i : (i : ℕ) → (i ≡ k → ⊥) → at told_board i ≡ at b i
       told_i i d = at_other heard_board k i (freed (at heard_board k)) d ∙ at_other b k i (hearing (at b k) (suc t)) d
 
-      told_a : at told-board a ≡ at b a
+      told_a : at told_board a ≡ at b a
       told_a = told_i a (λ e. far (sym e))
 
-      told_q : is_request (at told-board a).phase ≡ false
+      told_q : is_request (at told_board a).phase ≡ false
       told_q = ap (λ (v : Node). is_request v.phase) told_a ∙ q
 
-      told_g : is_grant (at told-board k).phase ≡ false
+      told_g : is_grant (at told_board k).phase ≡ false
       told_g = ap (λ (v : Node). is_grant v.phase) told_k ∙ (freed_calm (at heard_board k)).1
 
-      told_moved : Moved m a r (at b) (at told-board) k []
+      told_moved : Moved m a r (at b) (at told_board) k []
       told_moved = record {
         phase = ap (λ (v : Node). v.phase) told_a;
         round = ap (λ (v : Node). v.round) told_a;
@@ -150,15 +150,15 @@ module _ (m : Map) (a r : ℕ) where
         same = λ i d _. told_i i d;
         granted = λ i _ _. ap (λ (v : Node). marked v.granted i) told_a;
         calm = ap (λ (v : Node). is_request v.phase) told_k ∙ (freed_calm (at heard_board k)).0;
-        lock = λ h. absurd (both_ways (is_grant (at told-board k).phase) told_g h);
+        lock = λ h. absurd (both_ways (is_grant (at told_board k).phase) told_g h);
         proper = λ _. subst (λ (v : Node). v.phase ≡ (freed v).phase) (sym told_k) refl;
         words = λ y i. absurd (Memᴰ.not-nil i);
-        here = sym (wait_is (at told-board a) k (at told-board k) false (marked (at told-board a).granted k) false told_q refl told_g);
+        here = sym (wait_is (at told_board a) k (at told_board k) false (marked (at told_board a).granted k) false told_q refl told_g);
         there = λ i d. refl;
-        short = λ p. absurd (both_ways (is_request (at told-board a).phase) told_q (ap is_request p));
-        marks = λ _ p. absurd (both_ways (is_request (at told-board a).phase) told_q (ap is_request p));
+        short = λ p. absurd (both_ways (is_request (at told_board a).phase) told_q (ap is_request p));
+        marks = λ _ p. absurd (both_ways (is_request (at told_board a).phase) told_q (ap is_request p));
         less =
-            let x = cost_is (at told-board a) k (at told-board k) false (marked (at told-board a).granted k) false told_q refl told_g in
+            let x = cost_is (at told_board a) k (at told_board k) false (marked (at told_board a).granted k) false told_q refl told_g in
             let y = cost_is (at b a) k (at b k) false (marked (at b a).granted k) true q refl g in
             omega arith;
       }
@@ -168,19 +168,19 @@ module _ (m : Map) (a r : ℕ) where
           subst (λ (v : Node). serves v a r ≡ true) (sym (at-put b k (hearing (at b k) (suc t)) in_k))
           (and_from (is_grant (at b k).phase) _ g (and_from (eqb (at b k).holder a) (eqb (at b k).term r) (eq-eqb (at b k).holder a h) (eq-eqb (at b k).term r e)))
 
-      received-release : received m b (release (suc t) r a k) ≡ sends m told-board [] 4
+      received-release : received m b (release (suc t) r a k) ≡ sends m told_board [] 4
       received-release =
           cond-false (foreign m (release (suc t) r a k)) _ _ (ap₂ (λ (v w : Bool). not v || w) link (or_from (eqb (suc t) 0) (ltb 64 (suc t)) (ne_eqb (suc t) 0 (λ z. omega arith)) (le-ltb 64 (suc t) (omega arith))))
           ∙ ap (λ (c : Board). sends m c [] 4) (cond-true (serves (at heard_board k) a r) _ _ frees_k)
 
-      told-only : Only a b told-board
-      told-only = only_then a b heard_board told-board (only-put a b k (hearing (at b k) (suc t)) in_k refl refl) (only-put a heard_board k (freed (at heard_board k)) heard_long refl refl)
+      told_only : Only a b told_board
+      told_only = only_then a b heard_board told_board (only_put a b k (hearing (at b k) (suc t)) in_k refl refl) (only_put a heard_board k (freed (at heard_board k)) heard_long refl refl)
 
       pub release_comes : Out (release (suc t) r a k) xs ys → Went b ys (received m b (release (suc t) r a k))
       release_comes out = subst (λ (o : After ℕ). Went b ys o) (sym received-release) (record {
-        episode = moves m a r (at b) (at told-board) k link (release (suc t) r a k) xs ys [] out ep refl told_moved;
-        less = works m a r (at b) (at told-board) k link (release (suc t) r a k) xs ys [] out ep refl told_moved;
-        only = told-only;
+        episode = moves m a r (at b) (at told_board) k link (release (suc t) r a k) xs ys [] out ep refl told_moved;
+        less = works m a r (at b) (at told_board) k link (release (suc t) r a k) xs ys [] out ep refl told_moved;
+        only = told_only;
         few = omega arith;
         came = (4, omega arith, refl);
       })

@@ -7,7 +7,7 @@ use Rattle.map.specs.View.{linked, nodes}
 use Rattle.map.specs.declared.Map.{Map}
 use Rattle.radio.specs.Ways.{Ways, AirRule, puts}
 use Rattle.radio.specs.declared.message.Message.{Message}
-use Rattle.radio.proofs.Puts.{puts-air}
+use Rattle.radio.proofs.Puts.{puts_air}
 use Rattle.rig.specs.declared.node.Node.{Node}
 use Rattle.rig.specs.declared.node.Phase.TheVariants.{Idle, Request, Release}
 use Rattle.rig.specs.Calm.{at, is_request, is_grant}
@@ -15,8 +15,8 @@ use Rattle.rig.specs.Board.{Board}
 use Rattle.rig.specs.Steps.{grant, counted, counts, received}
 use Rattle.law.proofs.Facts.{Fact}
 use Rattle.law.proofs.Boards.{Keeps, Good, here}
-use Rattle.law.proofs.Decide.{slot-free}
-use Rattle.law.proofs.Deliveries.{is-request, counts_kept, good-delivered}
+use Rattle.law.proofs.Decide.{slot_free}
+use Rattle.law.proofs.Deliveries.{is-request, counts_kept, good_delivered}
 use Rattle.drive.specs.Settling.{Rests}
 use Rattle.drive.specs.Sure.{Sure}
 use Rattle.drive.proofs.Airs.{Out, length-tally, takes_out, goes_into}
@@ -24,7 +24,7 @@ use Rattle.drive.proofs.Alone.{Only}
 use Rattle.drive.proofs.Comes.{Went, request_comes, release_comes}
 use Rattle.drive.proofs.Episode.{hits, cost, work, Word, asked, given, told, Episode, Busy}
 use Rattle.drive.proofs.Grants.{grant_comes}
-use Rattle.drive.proofs.Hits.{hits_off, length_hits, wait_small, cost_small, wait_is, cost_is, sum-none}
+use Rattle.drive.proofs.Hits.{hits_off, length_hits, wait_small, cost_small, wait_is, cost_is, sum_none}
 use Rattle.drive.proofs.Moves.{inside, word_about}
 
 -- no more messages wait than there are nodes, and no more deliveries are to come than three for each
@@ -39,8 +39,8 @@ few_wait m a r nd xs ep =
     at_most k (inl l) = let h = ep.waits k l in let w = wait_small (nd a) k (nd k) in omega arith
     at_most k (inr f) = let h = hits_off k xs (λ y i e. let (c, l, d) = word_about m a r nd y (ep.words y i) in both_ways (linked m a k) f (subst (λ (x : ℕ). linked m a x ≡ true) (sym d ∙ e) l)) in omega arith
 
-pub few-left : (m : Map) (a : ℕ) (nd : ℕ → Node) → work m a nd ≤ 192
-few-left m a nd =
+pub few_left : (m : Map) (a : ℕ) (nd : ℕ → Node) → work m a nd ≤ 192
+few_left m a nd =
     let s = sum_le (λ k. cond (linked m a k) (cost (nd a) k (nd k)) 0) 3 (nodes m) (λ k _. at_most k (linked m a k)) in
     let l = m.most in
     omega arith
@@ -69,7 +69,7 @@ module _ {S : Type 0} (w : Ways S) (rule : AirRule w) (sure : Sure w) (m : Map) 
           (request_comes m a r b h.fine.long k l (w.air s) left h.episode q g n (subst (λ (y : Message). Out y (w.air s) left) d out))
       by (given k t l q g n d) = subst (λ (y : Message). Went m a r b left (received m b y)) (sym d)
           (grant_comes m a r b h.fine.long k l (w.air s) left h.episode t (subst (λ (y : Message). Out y (w.air s) left) d out) q g n
-          (slot-free m (at (counts m b (grant t r k a))) kept.fine.nodes a (m.within a k l) (ap (λ (v : Node). v.phase) (here m b h.fine a (counted (at b a) k t) (m.within a k l)) ∙ q)))
+          (slot_free m (at (counts m b (grant t r k a))) kept.fine.nodes a (m.within a k l) (ap (λ (v : Node). v.phase) (here m b h.fine a (counted (at b a) k t) (m.within a k l)) ∙ q)))
         where
           kept : Keeps m b (counts m b (grant t r k a))
           kept = counts_kept m b h.fine (grant t r k a) (subst (λ (y : Message). Fact (linked m) (at b) y) d fact) (m.both k a ∙ l) refl (q, h.episode.round)
@@ -77,7 +77,7 @@ module _ {S : Type 0} (w : Ways S) (rule : AirRule w) (sure : Sure w) (m : Map) 
           (release_comes m a r b h.fine.long k l (w.air s) left h.episode t few q g (subst (λ (y : Message). Out y (w.air s) left) d out))
 
   good : Good m b (received m b x)
-  good = good-delivered m b h.fine (Some x) (λ y d. subst (λ (z : Message). Fact (linked m) (at b) z) (let q : x ≡ y = cc in q) fact)
+  good = good_delivered m b h.fine (Some x) (λ y d. subst (λ (z : Message). Fact (linked m) (at b) z) (let q : x ≡ y = cc in q) fact)
 
   room : length left + length (received m b x).sent ≤ 256
   room =
@@ -92,7 +92,7 @@ module _ {S : Type 0} (w : Ways S) (rule : AirRule w) (sure : Sure w) (m : Map) 
   pub busy_on : Busy w m a r (received m b x).board (puts w (w.after_take s) (received m b x).sent)
   busy_on = record {
     fine = good.keeps.fine;
-    facts = λ y i. ⊎_elim (λ j. good.keeps.facts y (h.facts y (rule.take_air s y j))) (λ j. (good.sent y j).fact) (puts-air w rule (w.after_take s) (received m b x).sent y i);
+    facts = λ y i. ⊎_elim (λ j. good.keeps.facts y (h.facts y (rule.take_air s y j))) (λ j. (good.sent y j).fact) (puts_air w rule (w.after_take s) (received m b x).sent y i);
     episode = went.episode _ (goes_into w rule sure (w.after_take s) (received m b x).sent room);
   }
 
@@ -113,8 +113,8 @@ module _ {S : Type 0} (w : Ways S) (m : Map) (a r : ℕ) (b : Board) (s : S) (h 
           let z = none_about j in
           omega arith
 
-  pub has-decided : 0 < (at b a).slot
-  has-decided = h.episode.done quiet
+  pub has_decided : 0 < (at b a).slot
+  has_decided = h.episode.done quiet
 
   calm : (k : ℕ) → is_request (at b k).phase ≡ false
   calm k = ⊎_elim (λ e. subst (λ (j : ℕ). is_request (at b j).phase ≡ false) (sym e) quiet) (h.episode.others k) (cases_eq k a)
@@ -131,7 +131,7 @@ module _ {S : Type 0} (w : Ways S) (m : Map) (a r : ℕ) (b : Board) (s : S) (h 
           omega arith
 
   pub none_to_come : work m a (at b) ≡ 0
-  none_to_come = sum-none (λ k. cond (linked m a k) (cost (at b a) k (at b k)) 0) (nodes m) (λ k _. nothing k (linked m a k))
+  none_to_come = sum_none (λ k. cond (linked m a k) (cost (at b a) k (at b k)) 0) (nodes m) (λ k _. nothing k (linked m a k))
     where
       nothing : (k : ℕ) (v : Bool) → cond v (cost (at b a) k (at b k)) 0 ≡ 0
       nothing k true = cost_is (at b a) k (at b k) false (marked (at b a).granted k) false quiet refl (free k)
@@ -150,5 +150,5 @@ module _ {S : Type 0} (w : Ways S) (m : Map) (a r : ℕ) (b : Board) (s : S) (h 
 
       by : ((at b k).slot ≡ 0) ⊎ ((at b k).slot ≡ 0 → ⊥) → (k ≡ a) ⊎ (k ≡ a → ⊥) → Rests (at b k)
       by (inr n) _ = inr (phase ∙ cond-false (eqb (at b k).slot 0) Idle Release (ne_eqb (at b k).slot 0 n), omega arith)
-      by (inl z) (inl e) = absurd (let l = has-decided in let y : (at b a).slot ≡ 0 = ap (λ (j : ℕ). (at b j).slot) (sym e) ∙ z in let u : ⊥ = omega arith in u)
+      by (inl z) (inl e) = absurd (let l = has_decided in let y : (at b a).slot ≡ 0 = ap (λ (j : ℕ). (at b j).slot) (sym e) ∙ z in let u : ⊥ = omega arith in u)
       by (inl z) (inr d) = inl (phase ∙ cond-true (eqb (at b k).slot 0) Idle Release (eq-eqb (at b k).slot 0 z), z, only.rounds k d ∙ never (sym (only.slots k d) ∙ z) (before k))

@@ -23,7 +23,7 @@ use Rattle.drive.specs.Settling.{Rests, Resting, Settling}
 use Rattle.drive.specs.Sure.{Sure}
 use Rattle.drive.proofs.Alone.{Only, only_then, decide_then, decide_one, decide_none}
 use Rattle.drive.proofs.Begins.{Begun, begun, busy_first}
-use Rattle.drive.proofs.Delivers.{went, busy_on, has-decided, none_to_come, all_rest}
+use Rattle.drive.proofs.Delivers.{went, busy_on, has_decided, none_to_come, all_rest}
 use Rattle.drive.proofs.Episode.{work, Busy}
 
 none_in : (xs : List Message) → ((y : Message) → In y xs → ⊥) → xs ≡ []
@@ -133,7 +133,7 @@ module _ {S : Type 0} (w : Ways S) (rule : AirRule w) (sure : Sure w) (m : Map) 
   ends : (b₀ : Board) (s₀ : S) → ((k : ℕ) → Rests (at b₀ k)) → (at b₀ a).slot ≡ 0 → Drew w m a b₀ s₀ b₁ s₁ → w.taken s ≡ None → Settling w m a b₀ b s₀ (w.after_take s) count
   ends b₀ s₀ rests open-a d e =
       let empty = sure.hands s e in
-      let done = has-decided w m a (at b₁ a).round b s g.busy empty in
+      let done = has_decided w m a (at b₁ a).round b s g.busy empty in
       let only = only_then a b₀ b₁ b d.only g.only in
       record {
         won = d.won;

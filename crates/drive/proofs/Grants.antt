@@ -19,14 +19,14 @@ use Rattle.rig.specs.Calm.{at, is_request, is_grant}
 use Rattle.rig.specs.Board.{Board, put, decided_count}
 use Rattle.rig.specs.Steps.{After, grant, release, waits, counted, freed, decided, lowest, slot_for, foreign, received, complete, unmarked, counts, settled, settled_sent, gave_up, fail_all, to_all, sends}
 use Rattle.rig.proofs.Calms.{at-put, at_other}
-use Rattle.rig.proofs.Rows.{each-most}
+use Rattle.rig.proofs.Rows.{each_most}
 use Rattle.law.proofs.Marking.{added_new}
 use Rattle.law.proofs.Sends.{each_in}
 use Rattle.drive.proofs.Airs.{Out, Into}
-use Rattle.drive.proofs.Comes.{Went, only-put}
+use Rattle.drive.proofs.Comes.{Went, only_put}
 use Rattle.drive.proofs.Episode.{about, hits, work, told, Episode}
 use Rattle.drive.proofs.Hits.{one_if, none_if, hits_in, hits_each, wait_small, wait_is, cost_is}
-use Rattle.drive.proofs.Moves.{freed-release, apart, inside, word_about, Moved, moves, works, work_less}
+use Rattle.drive.proofs.Moves.{freed_release, apart, inside, word_about, Moved, moves, works, work_less}
 
 or_no : (v : Bool) → (v || false) ≡ v
 or_no true = refl
@@ -100,11 +100,11 @@ module _ (m : Map) (a r : ℕ) (b : Board) (long : length b ≡ 64) (k : ℕ) (l
         omega arith;
   }
 
-  grant-counts : complete m marking a ≡ false → Went m a r b ys (sends m marking [] 2)
-  grant-counts c = record {
+  grant_counts : complete m marking a ≡ false → Went m a r b ys (sends m marking [] 2)
+  grant_counts c = record {
     episode = moves m a r (at b) (at marking) k link (grant s r k a) xs ys [] out ep refl (counted_moved c);
     less = works m a r (at b) (at marking) k link (grant s r k a) xs ys [] out ep refl (counted_moved c);
-    only = only-put a b a (counted (at b a) k s) in_a refl refl;
+    only = only_put a b a (counted (at b a) k s) in_a refl refl;
     few = omega arith;
     came = (2, omega arith, refl);
   }
@@ -184,7 +184,7 @@ module _ (m : Map) (a r : ℕ) (b : Board) (long : length b ≡ 64) (k : ℕ) (l
         others = λ i d. ap (λ (v : Node). is_request v.phase) (end_i i d) ∙ ep.others i d;
         locks = λ i h. let d = not_a i h in subst (λ (v : Node). (linked m a i ≡ true) × (v.holder ≡ a) × (v.term ≡ r)) (sym (end_i i d)) (ep.locks i (subst (λ (v : Node). is_grant v.phase ≡ true) (end_i i d) h));
         proper = λ i x y. ⊎_elim
-            (λ e. subst (λ (j : ℕ). (at chosen j).phase ≡ (freed (at chosen j)).phase) (sym e) (freed-release (at chosen a) (ap (λ (v : Node). v.phase) end_a) end_slot))
+            (λ e. subst (λ (j : ℕ). (at chosen j).phase ≡ (freed (at chosen j)).phase) (sym e) (freed_release (at chosen a) (ap (λ (v : Node). v.phase) end_a) end_slot))
             (λ d. subst (λ (v : Node). v.phase ≡ (freed v).phase) (sym (end_i i d)) (ep.proper i (subst (λ (v : Node). is_request v.phase ≡ false) (end_i i d) x) (subst (λ (v : Node). is_grant v.phase ≡ false) (end_i i d) y)))
             (cases_eq i a);
         words = λ y i. ⊎_elim (λ j. absurd (none_left y j))
@@ -219,7 +219,7 @@ module _ (m : Map) (a r : ℕ) (b : Board) (long : length b ≡ 64) (k : ℕ) (l
             episode = ended;
             less = lesser;
             only = record { slots = λ i d. ap (λ (v : Node). v.slot) (end_i i d); rounds = λ i d. ap (λ (v : Node). v.round) (end_i i d); stays = λ _. end_slot };
-            few = let l = each-most (linked m a) (release (slot_for m marking a) (at marking a).round a) (nodes m) in let s = m.most in omega arith;
+            few = let l = each_most (linked m a) (release (slot_for m marking a) (at marking a).round a) (nodes m) in let s = m.most in omega arith;
             came = (2, omega arith, refl);
           }))
         where
@@ -227,4 +227,4 @@ module _ (m : Map) (a r : ℕ) (b : Board) (long : length b ≡ 64) (k : ℕ) (l
           fits = lt-ltb (lowest (at marking a).taken) 64 free
 
   pub grant_comes : lowest (at marking a).taken < 64 → Went m a r b ys (received m b (grant s r k a))
-  grant_comes free = subst (λ (o : After ℕ). Went m a r b ys o) (sym received-grant) (cond_both (complete m marking a) _ _ (Went m a r b ys) (λ c. grant_settles c free) grant-counts)
+  grant_comes free = subst (λ (o : After ℕ). Went m a r b ys o) (sym received-grant) (cond_both (complete m marking a) _ _ (Went m a r b ys) (λ c. grant_settles c free) grant_counts)

@@ -21,9 +21,9 @@ one_if u k e = ap (λ (v : Bool). cond {A = ℕ} v 1 0) (eq-eqb u k e)
 pub none_if : (u k : ℕ) → (u ≡ k → ⊥) → ◌≡◌ {A = ℕ} (cond (eqb u k) 1 0) 0
 none_if u k e = ap (λ (v : Bool). cond {A = ℕ} v 1 0) (ne_eqb u k e)
 
-pub tally-append : (p : Message → Bool) (xs ys : List Message) → tally p (xs ++ ys) ≡ tally p xs + tally p ys
-tally-append p [] ys = omega arith
-tally-append p (x ∷ xs) ys = let h = tally-append p xs ys in omega arith
+pub tally_append : (p : Message → Bool) (xs ys : List Message) → tally p (xs ++ ys) ≡ tally p xs + tally p ys
+tally_append p [] ys = omega arith
+tally_append p (x ∷ xs) ys = let h = tally_append p xs ys in omega arith
 
 pub hits_in : (k : ℕ) (xs : List Message) (y : Message) → In y xs → about y ≡ k → 1 ≤ hits k xs
 hits_in k [] y i e = absurd (Memᴰ.not-nil i)
@@ -51,13 +51,13 @@ module _ (p : ℕ → Bool) (f : ℕ → Message) (g : (j : ℕ) → about (f j)
   hits_past zero k l = refl
   hits_past (suc n) k l =
       let ih = hits_past n k (omega arith) in
-      tally-append (λ x. eqb (about x) k) (each p f n) (cond (p n) (f n ∷ []) [])
+      tally_append (λ x. eqb (about x) k) (each p f n) (cond (p n) (f n ∷ []) [])
       ∙ (let z = last_off n k (λ e. let u : ⊥ = omega arith in u) (p n) in omega arith)
 
   pub hits_each : (n k : ℕ) → k < n → p k ≡ true → hits k (each p f n) ≡ 1
   unfolding each
   hits_each zero k l t = absurd (let z : ⊥ = omega arith in z)
-  hits_each (suc n) k l t = tally-append (λ x. eqb (about x) k) (each p f n) (cond (p n) (f n ∷ []) []) ∙ go (λ q. hits_each n k q t) (cases_eq n k)
+  hits_each (suc n) k l t = tally_append (λ x. eqb (about x) k) (each p f n) (cond (p n) (f n ∷ []) []) ∙ go (λ q. hits_each n k q t) (cases_eq n k)
     where
       go : (k < n → hits k (each p f n) ≡ 1) → (n ≡ k) ⊎ (n ≡ k → ⊥) → hits k (each p f n) + hits k (cond (p n) (f n ∷ []) []) ≡ 1
       go ih (inl e) =
@@ -69,14 +69,14 @@ module _ (p : ℕ → Bool) (f : ℕ → Message) (g : (j : ℕ) → about (f j)
 
 -- sums
 
-pub sum-none : (f : ℕ → ℕ) (n : ℕ) → ((i : ℕ) → i < n → f i ≡ 0) → sum_below f n ≡ 0
-sum-none f n h = let l = sum_le f 0 n (λ i q. let e = h i q in omega arith) in omega arith
+pub sum_none : (f : ℕ → ℕ) (n : ℕ) → ((i : ℕ) → i < n → f i ≡ 0) → sum_below f n ≡ 0
+sum_none f n h = let l = sum_le f 0 n (λ i q. let e = h i q in omega arith) in omega arith
 
 -- more by d in one place
-pub sum-at : (f g : ℕ → ℕ) (n k d : ℕ) → k < n → g k ≡ f k + d → ((i : ℕ) → (i ≡ k → ⊥) → g i ≡ f i) → sum_below g n ≡ sum_below f n + d
+pub sum_at : (f g : ℕ → ℕ) (n k d : ℕ) → k < n → g k ≡ f k + d → ((i : ℕ) → (i ≡ k → ⊥) → g i ≡ f i) → sum_below g n ≡ sum_below f n + d
 unfolding sum_below
-sum-at f g zero k d l e h = absurd (let z : ⊥ = omega arith in z)
-sum-at f g (suc n) k d l e h = go (λ q. sum-at f g n k d q e h) (cases_eq n k)
+sum_at f g zero k d l e h = absurd (let z : ⊥ = omega arith in z)
+sum_at f g (suc n) k d l e h = go (λ q. sum_at f g n k d q e h) (cases_eq n k)
   where
     go : (k < n → sum_below g n ≡ sum_below f n + d) → (n ≡ k) ⊎ (n ≡ k → ⊥) → sum_below g n + g n ≡ (sum_below f n + f n) + d
     go ih (inl q) =
@@ -88,12 +88,12 @@ sum-at f g (suc n) k d l e h = go (λ q. sum-at f g n k d q e h) (cases_eq n k)
 
 -- as many messages as there are about the nodes below n, if all are about those
 pub length_hits : (n : ℕ) (xs : List Message) → ((y : Message) → In y xs → about y < n) → length xs ≡ sum_below (λ k. hits k xs) n
-length_hits n [] h = sym (sum-none (λ _. 0) n (λ _ _. refl))
+length_hits n [] h = sym (sum_none (λ _. 0) n (λ _ _. refl))
 length_hits n (x ∷ xs) h =
     let ih = length_hits n xs (λ y i. h y (Memᴰ.tail i)) in
     let s = sum_add (λ k. cond (eqb (about x) k) 1 0) (λ k. hits k xs) n in
-    let z = sum-none (λ _. 0) n (λ _ _. refl) in
-    let o = sum-at (λ _. 0) (λ k. cond (eqb (about x) k) 1 0) n (about x) 1 (h x (Memᴰ.head refl)) (one_if (about x) (about x) refl) (λ i d. none_if (about x) i (λ q. d (sym q))) in
+    let z = sum_none (λ _. 0) n (λ _ _. refl) in
+    let o = sum_at (λ _. 0) (λ k. cond (eqb (about x) k) 1 0) n (about x) 1 (h x (Memᴰ.head refl)) (one_if (about x) (about x) refl) (λ i d. none_if (about x) i (λ q. d (sym q))) in
     omega arith
 
 -- the stages of a neighbour

@@ -12,11 +12,11 @@ use Rattle.rig.specs.Calm.{is_request, is_grant}
 use Rattle.rig.specs.Steps.{freed}
 use Rattle.drive.proofs.Airs.{Out, Into}
 use Rattle.drive.proofs.Episode.{about, hits, wait, cost, work, Word, asked, given, told, Episode}
-use Rattle.drive.proofs.Hits.{hits_in, one_if, none_if, wait_small, wait_is, cost_is, sum-at}
+use Rattle.drive.proofs.Hits.{hits_in, one_if, none_if, wait_small, wait_is, cost_is, sum_at}
 
 -- a node in release with a slot is as if it had been freed
-pub freed-release : (v : Node) → v.phase ≡ Release → 0 < v.slot → v.phase ≡ (freed v).phase
-freed-release v e l = e ∙ sym (cond-false (eqb v.slot 0) Idle Release (ne_eqb v.slot 0 (λ z. let u : ⊥ = omega arith in u)))
+pub freed_release : (v : Node) → v.phase ≡ Release → 0 < v.slot → v.phase ≡ (freed v).phase
+freed_release v e l = e ∙ sym (cond-false (eqb v.slot 0) Idle Release (ne_eqb v.slot 0 (λ z. let u : ⊥ = omega arith in u)))
 
 module _ (m : Map) (a : ℕ) where
   pub apart : (k : ℕ) → linked m a k ≡ true → k ≡ a → ⊥
@@ -29,7 +29,7 @@ module _ (m : Map) (a : ℕ) where
   pub work_less : (nd nd' : ℕ → Node) (k : ℕ) → linked m a k ≡ true → cost (nd a) k (nd k) ≡ cost (nd' a) k (nd' k) + 1
       → ((i : ℕ) → (i ≡ k → ⊥) → linked m a i ≡ true → cost (nd a) i (nd i) ≡ cost (nd' a) i (nd' i)) → work m a nd ≡ work m a nd' + 1
   work_less nd nd' k link less same =
-      sum-at (λ i. cond (linked m a i) (cost (nd' a) i (nd' i)) 0) (λ i. cond (linked m a i) (cost (nd a) i (nd i)) 0) (nodes m) k 1 (inside k link)
+      sum_at (λ i. cond (linked m a i) (cost (nd' a) i (nd' i)) 0) (λ i. cond (linked m a i) (cost (nd a) i (nd i)) 0) (nodes m) k 1 (inside k link)
       (ap (λ (v : Bool). cond v (cost (nd a) k (nd k)) 0) link ∙ less ∙ sym (ap (λ (v : Bool). cond v (cost (nd' a) k (nd' k)) 0 + 1) link))
       (λ i d. kept i d (linked m a i) refl)
     where

@@ -20,19 +20,19 @@ use Rattle.law.proofs.Law.{every_run}
 use Rattle.drive.specs.Drive.{Drives, episode_calls, episode_answers}
 use Rattle.drive.specs.Settling.{Resting, Settling, Settled}
 use Rattle.drive.proofs.Going.{calls_then}
-use Rattle.drive.proofs.Hits.{sum-none, sum-at}
+use Rattle.drive.proofs.Hits.{sum_none, sum_at}
 
 -- none
 
-pub settled-none : {S : Type 0} (w : Ways S) (m : Map) (b : Board) (s : S) → b ≡ new_board → w.air s ≡ [] → Settled w m [] b s 0
-settled-none w m b s new empty = subst (λ (c : Board). Settled w m [] c s 0) (sym new) (record {
+pub settled_none : {S : Type 0} (w : Ways S) (m : Map) (b : Board) (s : S) → b ≡ new_board → w.air s ≡ [] → Settled w m [] b s 0
+settled_none w m b s new empty = subst (λ (c : Board). Settled w m [] c s 0) (sym new) (record {
   calls = [];
   answers = [];
   drives = Drives.none;
   run = record { start = s; empty = empty; made = none };
   rests = λ k. inl (ap (λ (v : Node). v.phase) (at-blank 64 k), ap (λ (v : Node). v.slot) (at-blank 64 k), ap (λ (v : Node). v.round) (at-blank 64 k));
   empty = empty;
-  counted = sym (sum-none (λ k. cond (eqb (at new_board k).slot 0) 0 (3 * degree m k)) (nodes m) (λ k _. cond-true (eqb (at new_board k).slot 0) 0 (3 * degree m k) (eq-eqb (at new_board k).slot 0 (ap (λ (v : Node). v.slot) (at-blank 64 k)))));
+  counted = sym (sum_none (λ k. cond (eqb (at new_board k).slot 0) 0 (3 * degree m k)) (nodes m) (λ k _. cond-true (eqb (at new_board k).slot 0) 0 (3 * degree m k) (eq-eqb (at new_board k).slot 0 (ap (λ (v : Node). v.slot) (at-blank 64 k)))));
 })
 
 -- one more
@@ -40,9 +40,9 @@ settled-none w m b s new empty = subst (λ (c : Board). Settled w m [] c s 0) (s
 pub resting : {S : Type 0} (w : Ways S) (m : Map) (order : List ℕ) (b : Board) (s : S) (count : ℕ) → Settled w m order b s count → Resting w m b s
 resting w m order b s count h = record { calls = h.calls; answers = h.answers; order = order; run = h.run; rests = h.rests; empty = h.empty }
 
-pub settled-more : {S : Type 0} (w : Ways S) (m : Map) (order : List ℕ) (a : ℕ) (b b' : Board) (s s' : S) (count n : ℕ) → a < nodes m → (at b a).slot ≡ 0
+pub settled_more : {S : Type 0} (w : Ways S) (m : Map) (order : List ℕ) (a : ℕ) (b b' : Board) (s s' : S) (count n : ℕ) → a < nodes m → (at b a).slot ≡ 0
     → Settled w m order b s count → Settling w m a b b' s s' n → Settled w m (order ++ (a ∷ [])) b' s' (count + n)
-settled-more w m order a b b' s s' count n in_a open-a h k = record {
+settled_more w m order a b b' s s' count n in_a open-a h k = record {
   calls = h.calls ++ episode_calls a k.kinds;
   answers = h.answers ++ episode_answers k.won k.kinds;
   drives = subst (λ (x : ℕ). Drives (order ++ (a ∷ [])) (h.calls ++ episode_calls a k.kinds) (h.answers ++ episode_answers k.won k.kinds) (count + x)) k.long (Drives.more h.drives a k.won k.kinds k.came);
@@ -50,7 +50,7 @@ settled-more w m order a b b' s s' count n in_a open-a h k = record {
   rests = k.rests;
   empty = k.empty;
   counted =
-      let e = sum-at (λ i. cond (eqb (at b i).slot 0) 0 (3 * degree m i)) (λ i. cond (eqb (at b' i).slot 0) 0 (3 * degree m i)) (nodes m) a (3 * degree m a) in_a here (λ i d. ap (λ (x : ℕ). cond (eqb x 0) 0 (3 * degree m i)) (k.others i d)) in
+      let e = sum_at (λ i. cond (eqb (at b i).slot 0) 0 (3 * degree m i)) (λ i. cond (eqb (at b' i).slot 0) 0 (3 * degree m i)) (nodes m) a (3 * degree m a) in_a here (λ i d. ap (λ (x : ℕ). cond (eqb x 0) 0 (3 * degree m i)) (k.others i d)) in
       let c = h.counted in
       let t = k.thrice in
       omega arith;
@@ -63,20 +63,20 @@ settled-more w m order a b b' s s' count n in_a open-a h k = record {
         omega arith
 
 module _ {S : Type 0} (w : Ways S) (rule : AirRule w) (m : Map) (order : List ℕ) (b : Board) (s : S) (count : ℕ) where
-  pub settled-law : Settled w m order b s count → SlotLaw m order b
-  settled-law h = (every_run w rule m b s h.calls h.answers order h.run).0
+  pub settled_law : Settled w m order b s count → SlotLaw m order b
+  settled_law h = (every_run w rule m b s h.calls h.answers order h.run).0
 
 -- the node that an order names next has not decided
 pub next_open : {S : Type 0} (w : Ways S) → AirRule w → (m : Map) (order : List ℕ) → Fine (nodes m) order → (i : ℕ) → i < length order → (b : Board) (s : S) (count : ℕ)
     → Settled w m (take i order) b s count → (at b (get_or order i 0)).slot ≡ 0
 next_open w rule m order fine i l b s count h =
-    (settled-law w rule m (take i order) b s count h).undecided (get_or order i 0) (fine i l).0 (λ (j, q, e).
+    (settled_law w rule m (take i order) b s count h).undecided (get_or order i 0) (fine i l).0 (λ (j, q, e).
     let k = length-take-le i order (omega arith) in
     (fine i l).1 (j, omega arith, sym (get_or-take i order j 0 (omega arith)) ∙ e))
 
 -- three for each of 64 neighbours of 64 nodes
-pub few-came : {S : Type 0} (w : Ways S) (m : Map) (order : List ℕ) (b : Board) (s : S) (count : ℕ) → Settled w m order b s count → count ≤ 12288
-few-came w m order b s count h =
+pub few_came : {S : Type 0} (w : Ways S) (m : Map) (order : List ℕ) (b : Board) (s : S) (count : ℕ) → Settled w m order b s count → count ≤ 12288
+few_came w m order b s count h =
     let c = h.counted in
     let l = sum_le (λ k. cond (eqb (at b k).slot 0) 0 (3 * degree m k)) 192 (nodes m) (λ k _. at_most k (eqb (at b k).slot 0)) in
     let n = m.most in
@@ -88,22 +88,22 @@ few-came w m order b s count h =
 
 -- all
 
-sum-three : (f : ℕ → ℕ) (n : ℕ) → sum_below (λ k. 3 * f k) n ≡ 3 * sum_below f n
+sum_three : (f : ℕ → ℕ) (n : ℕ) → sum_below (λ k. 3 * f k) n ≡ 3 * sum_below f n
 unfolding sum_below
-sum-three f zero = omega arith
-sum-three f (suc n) = let e = sum-three f n in omega arith
+sum_three f zero = omega arith
+sum_three f (suc n) = let e = sum_three f n in omega arith
 
 module _ {S : Type 0} (w : Ways S) (m : Map) (order : List ℕ) (b : Board) (s : S) (count : ℕ) (h : Settled w m order b s count) (law : SlotLaw m order b) (all : (k : ℕ) → k < nodes m → Named order k) where
   decided : (k : ℕ) → k < nodes m → (at b k).slot ≡ 0 → ⊥
   decided k l = law.decided k l (all k l)
 
-  pub all-release : (k : ℕ) → k < nodes m → (at b k).phase ≡ Release
-  all-release k l = ⊎_elim (λ (_, z, _). absurd (decided k l z)) (λ (p, _). p) (h.rests k)
+  pub all_release : (k : ℕ) → k < nodes m → (at b k).phase ≡ Release
+  all_release k l = ⊎_elim (λ (_, z, _). absurd (decided k l z)) (λ (p, _). p) (h.rests k)
 
-  pub six-each : count ≡ 6 * link_count m
-  six-each =
+  pub six_each : count ≡ 6 * link_count m
+  six_each =
       let c = h.counted in
       let e = sum_like (λ k. cond (eqb (at b k).slot 0) 0 (3 * degree m k)) (λ k. 3 * degree m k) (nodes m) (λ k l. cond-false (eqb (at b k).slot 0) 0 (3 * degree m k) (ne_eqb (at b k).slot 0 (decided k l))) in
-      let t = sum-three (degree m) (nodes m) in
+      let t = sum_three (degree m) (nodes m) in
       let d = twice_links m in
       omega arith

@@ -6,28 +6,28 @@ use Rattle.refusal.specs.declared.Refusal.{Refusal}
 use Rattle.refusal.proofs.Why.{Why-cases}
 use Rattle.map.specs.View.{nodes, contend}
 use Rattle.map.specs.declared.Map.{Map}
-use Rattle.map.proofs.Contends.{contend_mutual, contend-apart}
+use Rattle.map.proofs.Contends.{contend_mutual, contend_apart}
 use Rattle.schedule.specs.Rand.{Fine, Named}
 use Rattle.schedule.specs.Order.{Disordered}
 use Rattle.schedule.specs.Sharing.{Checked}
 use Rattle.schedule.specs.declared.checking.Verdict.TheVariants.{Accepted}
-use Rattle.schedule.proofs.Accept.{rand-accepted}
+use Rattle.schedule.proofs.Accept.{rand_accepted}
 use Rattle.schedule.proofs.Table.{table_is, well_ordered}
 use Rattle.drive.specs.Drive.{Driven, Drove, LeavesOut, DriveRefused}
 use Rattle.report.specs.Overview.{rising}
-use Rattle.report.proofs.Room.{rising-length, rising-at, rising-fine}
+use Rattle.report.proofs.Room.{rising-length, rising_at, rising_fine}
 
 -- the rising order names every node
-rising-all : (n k : ℕ) → k < n → Named (rising n) k
-rising-all n k l = (k, let e = rising-length n in omega arith, rising-at n k l)
+rising_all : (n k : ℕ) → k < n → Named (rising n) k
+rising_all n k l = (k, let e = rising-length n in omega arith, rising_at n k l)
 
 module _ (m : Map) (before after : List ℕ) (room : nodes m ≤ length before) where
   never_refused : (number : ℕ) → DriveRefused (nodes m) (rising (nodes m)) before number → ⊥
   never_refused number h = elim (Why-cases number 1 (length before < nodes m) ((nodes m ≤ length before) × Late number) h) [
     | inl q ↦ omega arith
     | inr (_, late) ↦ elim (Why-cases number 6 Left (Disordered (nodes m) (rising (nodes m)) number) late) [
-      | inl (_, (k, l, out)) ↦ out (rising-all (nodes m) k l)
-      | inr wrong ↦ well_ordered (contend m) (nodes m) (rising (nodes m)) before after room (rising-fine (nodes m)) number wrong
+      | inl (_, (k, l, out)) ↦ out (rising_all (nodes m) k l)
+      | inr wrong ↦ well_ordered (contend m) (nodes m) (rising (nodes m)) before after room (rising_fine (nodes m)) number wrong
     ]
   ]
     where
@@ -56,5 +56,5 @@ module _ (m : Map) (xs before after : List ℕ) (r : Result ℕ Refusal) (long :
 pub drive_accepted : (m : Map) (before after : List ℕ) (count : ℕ) → nodes m ≤ length after → Driven m (rising (nodes m)) before after count
     → (x : ℕ) × Checked (contend m) (nodes m) after (Ok (Accepted x))
 drive_accepted m before after count room d =
-    rand-accepted (contend m) (nodes m) (contend_mutual m) (contend-apart m) (rising (nodes m)) after room
-    (table_is (contend m) (nodes m) (rising (nodes m)) after (rising-fine (nodes m)) d.rands)
+    rand_accepted (contend m) (nodes m) (contend_mutual m) (contend_apart m) (rising (nodes m)) after room
+    (table_is (contend m) (nodes m) (rising (nodes m)) after (rising_fine (nodes m)) d.rands)

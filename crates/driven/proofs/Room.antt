@@ -71,9 +71,9 @@ rows_like f g h i (suc k) p q =
 -- the rows and the totals, one after the other
 
 module _ (m : Map) (drive plan : ℕ → ℕ) (drives : (k : ℕ) → k < nodes m → drive k ≡ drive_slot m k) (plans : (k : ℕ) → k < nodes m → plan k ≡ plan_slot m k) where
-  pub account-made : (s mid last : List ℕ) (count deliveries : ℕ) (v : Result Verdict Refusal) → s ≡ [] → count ≡ nodes m → deliveries ≡ deliveries_of m
+  pub account_made : (s mid last : List ℕ) (count deliveries : ℕ) (v : Result Verdict Refusal) → s ≡ [] → count ≡ nodes m → deliveries ≡ deliveries_of m
       → v ≡ Ok (Accepted (frame m)) → mid ≡ clip (s ++ rows drive plan count) → last ≡ clip (mid ++ totals (link_count m) deliveries v) → last ≡ account m
-  account-made s mid last count deliveries v none all six is p q =
+  account_made s mid last count deliveries v none all six is p q =
       whole s last (account m) none (account_short m)
       (and_then s mid last (rows (drive_slot m) (plan_slot m) (nodes m)) (totals (link_count m) (deliveries_of m) (Ok (Accepted (frame m))))
       (p ∙ ap (λ (k : ℕ). clip (s ++ rows drive plan k)) all ∙ ap (λ (x : List ℕ). clip (s ++ x)) (rows_like drive plan (drive_slot m) (plan_slot m) (nodes m) drives plans))

@@ -6,7 +6,7 @@ use Rattle.refusal.specs.declared.Refusal.{Refusal}
 use Rattle.refusal.proofs.Why.{Why-cases}
 use Rattle.map.specs.View.{Net, net, nodes, contend}
 use Rattle.map.specs.declared.Map.{Map}
-use Rattle.map.proofs.Contends.{contend_mutual, contend-apart}
+use Rattle.map.proofs.Contends.{contend_mutual, contend_apart}
 use Rattle.schedule.specs.Sharing.{Shares, FirstPair, Largest, Checked}
 use Rattle.schedule.specs.declared.checking.Verdict.{Verdict}
 use Rattle.schedule.specs.declared.checking.Verdict.TheVariants.{Accepted, Clash}
@@ -87,7 +87,7 @@ apart_stands m e =
     let size : nodes m ≡ 3 = ap (λ (n : Net). n.size) e in (
       (let s = size in omega arith),
       (
-        clear_alone (contend m) (nodes m) (contend_mutual m) (contend-apart m) apart 3 (sym size) (λ x l y h k s. no_pair x y h k s.same),
+        clear_alone (contend m) (nodes m) (contend_mutual m) (contend_apart m) apart 3 (sym size) (λ x l y h k s. no_pair x y h k s.same),
         largest_same 3 (nodes m) apart 2 (sym size) (record { above = above; there = inr (1, omega arith, refl) }),
       ),
     )

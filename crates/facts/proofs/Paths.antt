@@ -18,9 +18,9 @@ linking_next n a h =
     let z : eqb a (a + 1) ≡ false = ne_eqb a (a + 1) (λ e. omega arith) in
     simp (x, y, z)
 
-pub line-more : (n a : ℕ) (before after : Map) (r : Result (Unit {0}) Refusal) → a < n - 1 → net before ≡ line n a
+pub line_more : (n a : ℕ) (before after : Map) (r : Result (Unit {0}) Refusal) → a < n - 1 → net before ≡ line n a
     → r ≡ linking (nodes before) a (a + 1) → Left r (linked_up (net before) a (a + 1)) before after → net after ≡ line n (a + 1)
-line-more n a before after r h e is left =
+line_more n a before after r h e is left =
     let size : nodes before ≡ n = ap (λ (x : Net). x.size) e ∙ line-size n a in
     let ok : r ≡ Ok tt = is ∙ ap (λ (x : ℕ). linking x a (a + 1)) size ∙ linking_next n a (omega arith) in
     let made : net after ≡ linked_up (net before) a (a + 1) = subst (λ (x : Result (Unit {0}) Refusal). Left x (linked_up (net before) a (a + 1)) before after) ok left in

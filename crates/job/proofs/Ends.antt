@@ -10,23 +10,23 @@ use Rattle.radio.specs.Queue.{queue_ways}
 use Rattle.radio.specs.Ways.{Ways, AirRule}
 use Rattle.radio.specs.declared.message.Message.{Message}
 use Rattle.rig.specs.Board.{Board}
-use Rattle.law.proofs.Law.{holds, turn-few}
+use Rattle.law.proofs.Law.{holds, turn_few}
 use Rattle.script.specs.Script.{good, described, seed_of, events}
 use Rattle.script.specs.declared.Event.{Event}
 use Rattle.job.specs.Play.{Stand, fresh, plays, PlaysOut}
 use Rattle.job.specs.Listing.{coin, listing, listed_over, listed, PlaysOutOver, JobRuns}
 use Rattle.job.proofs.Rooms.{Short}
 
-pub max-more : (f : ℕ → ℕ) (k largest slot result : ℕ) → largest ≡ max_below f k → slot ≡ f k → result ≡ max largest slot → result ≡ max_below f (k + 1)
+pub max_more : (f : ℕ → ℕ) (k largest slot result : ℕ) → largest ≡ max_below f k → slot ≡ f k → result ≡ max largest slot → result ≡ max_below f (k + 1)
 unfolding max_below
-max-more f k largest slot result p q e = e ∙ ap₂ max p q ∙ ap (max_below f) (sym (add-one k))
+max_more f k largest slot result p q e = e ∙ ap₂ max p q ∙ ap (max_below f) (sym (add-one k))
 
 -- in the end of a run no number of a node is too long for a listing
 pub short_end : {S : Type 0} (w : Ways S) → AirRule w → (m : Map) (es : List Event) (t : Stand S) → PlaysOut w m es t → (m' : Map) (b : Board) → m' ≡ m → b ≡ t.nodes → (k : ℕ) → k < nodes m' → Short b k
 short_end w rule m es t s m' b em eb k l =
     let i = holds w rule m s.run.empty s.run.made in
     let inside = subst (λ (x : Map). k < nodes x) em l in
-    subst (λ (x : Board). Short x k) (sym eb) (record { slot = i.fine.nodes.small k; turn = turn-few w rule m s.order t.nodes t.radio i k inside; round = i.fine.nodes.few k })
+    subst (λ (x : Board). Short x k) (sym eb) (record { slot = i.fine.nodes.small k; turn = turn_few w rule m s.order t.nodes t.radio i k inside; round = i.fine.nodes.few k })
 
 -- over which radio
 

@@ -37,8 +37,8 @@ rows_more b s t u k p q = and_then s t u (rows b k) (row b k) p q ∙ ap (λ (i 
 -- how long the lines are
 
 -- a number of at most d digits after a space
-spaced-one : (d n : ℕ) (ns : List ℕ) → 0 < d → 10 ^ d ≤ 2 ^ 64 → n < 10 ^ d → length (spaced (n ∷ ns)) ≤ d + 1 + length (spaced ns)
-spaced-one d n ns p w l =
+spaced_one : (d n : ℕ) (ns : List ℕ) → 0 < d → 10 ^ d ≤ 2 ^ 64 → n < 10 ^ d → length (spaced (n ∷ ns)) ≤ d + 1 + length (spaced ns)
+spaced_one d n ns p w l =
     let h = length-decimal-le d n p l (omega arith) in
     let e = length-append (32 ∷ decimal n) (spaced ns) in
     omega arith
@@ -49,9 +49,9 @@ row_short b k l s t r =
     let turn = (at b k).turn in
     let round = (at b k).round in
     let a = length-decimal-le 2 k (omega arith) (omega arith) (omega arith) in
-    let x = spaced-one 2 (at b k).slot ((at b k).turn ∷ ((at b k).round ∷ [])) (omega arith) (omega arith) (omega arith) in
-    let y = spaced-one 2 (at b k).turn ((at b k).round ∷ []) (omega arith) (omega arith) (omega arith) in
-    let z = spaced-one 5 (at b k).round [] (omega arith) (omega arith) (omega arith) in
+    let x = spaced_one 2 (at b k).slot ((at b k).turn ∷ ((at b k).round ∷ [])) (omega arith) (omega arith) (omega arith) in
+    let y = spaced_one 2 (at b k).turn ((at b k).round ∷ []) (omega arith) (omega arith) (omega arith) in
+    let z = spaced_one 5 (at b k).round [] (omega arith) (omega arith) (omega arith) in
     let e = length-append (decimal k) (line_end ((at b k).slot ∷ ((at b k).turn ∷ ((at b k).round ∷ [])))) in
     let d = length-append (spaced ((at b k).slot ∷ ((at b k).turn ∷ ((at b k).round ∷ [])))) (10 ∷ []) in
     omega arith
@@ -77,9 +77,9 @@ listing_short m t h few =
     let most = m.most in
     let f : frame m t.nodes ≤ 64 = max_le (λ k. (at t.nodes k).slot) (nodes m) 64 (λ k l. (h k l).slot) in
     let r = rows_short t.nodes (nodes m) m.most h in
-    let x = spaced-one 8 t.came (t.refused ∷ (frame m t.nodes ∷ [])) (omega arith) (omega arith) (omega arith) in
-    let y = spaced-one 8 t.refused (frame m t.nodes ∷ []) (omega arith) (omega arith) (omega arith) in
-    let z = spaced-one 2 (frame m t.nodes) [] (omega arith) (omega arith) (omega arith) in
+    let x = spaced_one 8 t.came (t.refused ∷ (frame m t.nodes ∷ [])) (omega arith) (omega arith) (omega arith) in
+    let y = spaced_one 8 t.refused (frame m t.nodes ∷ []) (omega arith) (omega arith) (omega arith) in
+    let z = spaced_one 2 (frame m t.nodes) [] (omega arith) (omega arith) (omega arith) in
     let ends = line_end (t.came ∷ (t.refused ∷ (frame m t.nodes ∷ []))) in
     let a = length-append (rows t.nodes (nodes m)) (codes "end" ++ ends) in
     let b = length-append (codes "end") ends in

@@ -49,18 +49,18 @@ module _ {S : Type 0} (w : Ways S) (m : Map) (s₀ : S) where
     fits : Delivers n results
     led : Led (calls ++ replicate (length results) Deliver) (answers ++ map Delivered results) order (up_to w m n t)
 
-  none-delivered : (calls : List Call) (answers : List Answer) (order : List ℕ) (t : Stand S) → Led calls answers order t → Delivered_on 0 calls answers t
+  none_delivered : (calls : List Call) (answers : List Answer) (order : List ℕ) (t : Stand S) → Led calls answers order t → Delivered_on 0 calls answers t
   unfolding up_to
-  none-delivered calls answers order t l = record {
+  none_delivered calls answers order t l = record {
     results = [];
     order = order;
     fits = record { most = omega arith; before = λ i h. absurd (let z : ⊥ = omega arith in z); last = inl refl };
     led = subst (λ (x : List Call). Led x (answers ++ []) order t) (sym (append-nil calls)) (subst (λ (x : List Answer). Led calls x order t) (sym (append-nil answers)) l);
   }
 
-  last-delivered : (n : ℕ) (calls : List Call) (answers : List Answer) (order : List ℕ) (t : Stand S) → Led calls answers order t → nothing (answered w m t Deliver) ≡ true → Delivered_on (suc n) calls answers t
+  last_delivered : (n : ℕ) (calls : List Call) (answers : List Answer) (order : List ℕ) (t : Stand S) → Led calls answers order t → nothing (answered w m t Deliver) ≡ true → Delivered_on (suc n) calls answers t
   unfolding up_to
-  last-delivered n calls answers order t l e =
+  last_delivered n calls answers order t l e =
       let (order', led) = led_more calls answers order t l Deliver in
       record {
         results = result t ∷ [];
@@ -69,10 +69,10 @@ module _ {S : Type 0} (w : Ways S) (m : Map) (s₀ : S) where
         led = subst (λ (b : Bool). Led (calls ++ (Deliver ∷ [])) (answers ++ (answered w m t Deliver ∷ [])) order' (cond b (called w m t Deliver) (up_to w m n (called w m t Deliver)))) (sym e) led;
       }
 
-  more-delivered : (n : ℕ) (calls : List Call) (answers : List Answer) (t : Stand S) → nothing (answered w m t Deliver) ≡ false
+  more_delivered : (n : ℕ) (calls : List Call) (answers : List Answer) (t : Stand S) → nothing (answered w m t Deliver) ≡ false
       → Delivered_on n (calls ++ (Deliver ∷ [])) (answers ++ (answered w m t Deliver ∷ [])) (called w m t Deliver) → Delivered_on (suc n) calls answers t
   unfolding up_to
-  more-delivered n calls answers t e d = record {
+  more_delivered n calls answers t e d = record {
     results = result t ∷ d.results;
     order = d.order;
     fits = record { most = (let h = d.fits.most in omega arith); before = before; last = last d.fits.last };
@@ -92,14 +92,14 @@ module _ {S : Type 0} (w : Ways S) (m : Map) (s₀ : S) where
       last (inr (i, h, q)) = inr (suc i, ap suc h, q)
 
   delivered_on : (n : ℕ) (calls : List Call) (answers : List Answer) (order : List ℕ) (t : Stand S) → Led calls answers order t → Delivered_on n calls answers t
-  delivered_on zero calls answers order t l = none-delivered calls answers order t l
+  delivered_on zero calls answers order t l = none_delivered calls answers order t l
   delivered_on (suc n) calls answers order t l =
       let (order', led) = led_more calls answers order t l Deliver in
       go (nothing (answered w m t Deliver)) refl (delivered_on n (calls ++ (Deliver ∷ [])) (answers ++ (answered w m t Deliver ∷ [])) order' (called w m t Deliver) led)
     where
       go : (b : Bool) → nothing (answered w m t Deliver) ≡ b → Delivered_on n (calls ++ (Deliver ∷ [])) (answers ++ (answered w m t Deliver ∷ [])) (called w m t Deliver) → Delivered_on (suc n) calls answers t
-      go true e d = last-delivered n calls answers order t l e
-      go false e d = more-delivered n calls answers t e d
+      go true e d = last_delivered n calls answers order t l e
+      go false e d = more_delivered n calls answers t e d
 
   -- event after event
 

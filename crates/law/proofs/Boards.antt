@@ -56,8 +56,8 @@ module _ (m : Map) where
   pub keeps_self : (b : Board) → Fine b → Keeps b b
   keeps_self b f = record { fine = f; facts = λ x h. h }
 
-  pub none-sent : {nd : ℕ → Node} (x : Message) → In x [] → Said m nd x
-  none-sent x i = absurd (Memᴰ.not-nil i)
+  pub none_sent : {nd : ℕ → Node} (x : Message) → In x [] → Said m nd x
+  none_sent x i = absurd (Memᴰ.not-nil i)
 
   turns : (b : Board) → Fine b → (k : ℕ) (w : Node) → k < nodes m → Turn (linked m) (at b) k w → (i : ℕ) → Turn (linked m) (at b) i (at (put b k w) i)
   turns b f k w l t i = ⊎_elim
@@ -67,8 +67,8 @@ module _ (m : Map) where
       (cases_eq i k)
 
   -- one node makes a lawful turn
-  pub keeps-put : (b : Board) → Fine b → (k : ℕ) (w : Node) → k < nodes m → Turn (linked m) (at b) k w → Keeps b (put b k w)
-  keeps-put b f k w l t = record {
+  pub keeps_put : (b : Board) → Fine b → (k : ℕ) (w : Node) → k < nodes m → Turn (linked m) (at b) k w → Keeps b (put b k w)
+  keeps_put b f k w l t = record {
     fine = record { long = length-set (b) k w ∙ f.long; nodes = nodes_kept (linked m) (at b) (at (put b k w)) f.nodes (turns b f k w l t) };
     facts = fact_kept (linked m) (at b) (at (put b k w)) f.nodes (turns b f k w l t);
   }
@@ -76,8 +76,8 @@ module _ (m : Map) where
   pub here : (b : Board) → Fine b → (k : ℕ) (w : Node) → k < nodes m → at (put b k w) k ≡ w
   here b f k w l = at-put b k w (let s = m.most in let g = f.long in omega arith)
 
-  pub same-put : (b : Board) → Fine b → (k : ℕ) (w : Node) → k < nodes m → w.slot ≡ (at b k).slot → w.turn ≡ (at b k).turn → Same b (put b k w)
-  same-put b f k w l es et = record {
+  pub same_put : (b : Board) → Fine b → (k : ℕ) (w : Node) → k < nodes m → w.slot ≡ (at b k).slot → w.turn ≡ (at b k).turn → Same b (put b k w)
+  same_put b f k w l es et = record {
     slot = λ i. ⊎_elim (λ e. ap (λ (j : ℕ). (at (put b k w) j).slot) e ∙ ap (λ (v : Node). v.slot) (here b f k w l) ∙ es ∙ ap (λ (j : ℕ). (at b j).slot) (sym e)) (λ d. ap (λ (v : Node). v.slot) (at_other b k i w d)) (cases_eq i k);
     turn = λ i. ⊎_elim (λ e. ap (λ (j : ℕ). (at (put b k w) j).turn) e ∙ ap (λ (v : Node). v.turn) (here b f k w l) ∙ et ∙ ap (λ (j : ℕ). (at b j).turn) (sym e)) (λ d. ap (λ (v : Node). v.turn) (at_other b k i w d)) (cases_eq i k);
   }
@@ -96,8 +96,8 @@ module _ (m : Map) where
   }
 
   -- a quiet step, and then a good one
-  pub good-after : (b c : Board) {A : Type 0} (a : After A) → Keeps b c → Same b c → Good c a → Good b a
-  good-after b c a k s g = record {
+  pub good_after : (b c : Board) {A : Type 0} (a : After A) → Keeps b c → Same b c → Good c a → Good b a
+  good_after b c a k s g = record {
     keeps = record { fine = g.keeps.fine; facts = λ x h. g.keeps.facts x (k.facts x h) };
     sent = g.sent;
     moved = ⊎_elim (λ q. inl (same_trans b c a.board s q)) (λ (i, q). inr (i, settles_after b c a.board i s q)) g.moved;
@@ -110,8 +110,8 @@ module _ (m : Map) where
     moved = inl (subst (λ (c : Board). Same b c) (sym e) (same_self b));
   }
 
-  pub good-refused : (b : Board) → Fine b → {A : Type 0} (e : Refusal) → Good {A = A} b (refused b e)
-  good-refused b f e = good_stay b _ f refl none-sent
+  pub good_refused : (b : Board) → Fine b → {A : Type 0} (e : Refusal) → Good {A = A} b (refused b e)
+  good_refused b f e = good_stay b _ f refl none_sent
 
-  pub one-sent : (b : Board) (y : Message) → Said m (at b) y → (x : Message) → In x (y ∷ []) → Said m (at b) x
-  one-sent b y h x i = subst (λ (z : Message). Said m (at b) z) (sym (Memᴰ.eq_of_singleton i)) h
+  pub one_sent : (b : Board) (y : Message) → Said m (at b) y → (x : Message) → In x (y ∷ []) → Said m (at b) x
+  one_sent b y h x i = subst (λ (z : Message). Said m (at b) z) (sym (Memᴰ.eq_of_singleton i)) h

@@ -7,7 +7,7 @@ use Rattle.marks.proofs.Below.{count_le}
 use Rattle.refusal.specs.declared.Refusal.{Refusal}
 use Rattle.map.specs.View.{linked, nodes, contend}
 use Rattle.map.specs.declared.Map.{Map}
-use Rattle.map.proofs.Contends.{contend-decides, contend-apart, contend-swap, contend-inside}
+use Rattle.map.proofs.Contends.{contend_decides, contend_apart, contend_swap, contend_inside}
 use Rattle.schedule.specs.Rand.{first_from, holds, least}
 use Rattle.schedule.proofs.Slots.{some_find, some_at, crowd, first_below, least_is}
 use Rattle.radio.specs.declared.message.Message.{Message}
@@ -20,7 +20,7 @@ use Rattle.rig.proofs.Calms.{at_other}
 use Rattle.law.proofs.Facts.{Gone, Nodes}
 use Rattle.law.proofs.Moves.{decides, leaves, idle_quiet}
 use Rattle.law.proofs.Sends.{Said, each_in, release_true, fail_true}
-use Rattle.law.proofs.Boards.{Fine, Good, keeps-put, here, same-put}
+use Rattle.law.proofs.Boards.{Fine, Good, keeps_put, here, same_put}
 
 -- the slots taken are those of the contenders
 
@@ -28,17 +28,17 @@ module _ (m : Map) (nd : ℕ → Node) (inv : Nodes (linked m) nd) (k : ℕ) (q 
   taken-holds : (t : ℕ) → marked (nd k).taken t ≡ true → holds (contend m) (nodes m) (λ i. (nd i).slot) k (suc t) ≡ true
   taken-holds t h =
       let (c, d, e) = inv.takes k t q h in
-      some_at (λ i. contend m k i && eqb (nd i).slot (suc t)) (nodes m) c (contend-inside m c k (contend-swap m k c d))
-      (and_from (contend m k c) (eqb (nd c).slot (suc t)) ((contend-decides m k c).1 d) (eq-eqb (nd c).slot (suc t) e))
+      some_at (λ i. contend m k i && eqb (nd i).slot (suc t)) (nodes m) c (contend_inside m c k (contend_swap m k c d))
+      (and_from (contend m k c) (eqb (nd c).slot (suc t)) ((contend_decides m k c).1 d) (eq-eqb (nd c).slot (suc t) e))
 
   -- what stands below the smallest that is not taken is taken
-  below-taken : (t : ℕ) → t < lowest (nd k).taken → marked (nd k).taken t ≡ true
+  below_taken : (t : ℕ) → t < lowest (nd k).taken → marked (nd k).taken t ≡ true
   unfolding lowest
-  below-taken t l = first_below (marked (nd k).taken) 0 64 t (omega arith) l
+  below_taken t l = first_below (marked (nd k).taken) 0 64 t (omega arith) l
 
-  below-held : (t : ℕ) → 1 ≤ t → t < suc (lowest (nd k).taken) → holds (contend m) (nodes m) (λ i. (nd i).slot) k t ≡ true
-  below-held zero a b = absurd (let z : ⊥ = omega arith in z)
-  below-held (suc t) a b = taken-holds t (below-taken t (omega arith))
+  below_held : (t : ℕ) → 1 ≤ t → t < suc (lowest (nd k).taken) → holds (contend m) (nodes m) (λ i. (nd i).slot) k t ≡ true
+  below_held zero a b = absurd (let z : ⊥ = omega arith in z)
+  below_held (suc t) a b = taken-holds t (below_taken t (omega arith))
 
 -- who does not clash with itself leaves a place
 count_miss : (c : ℕ → Bool) (n k : ℕ) → k < n → c k ≡ false → count_below c n + 1 ≤ n
@@ -55,13 +55,13 @@ count_miss c (suc n) k l e = go (λ q. count_miss c n k q e) (cases_eq n k)
     go ih (inr d) = let h = ih (omega arith) in let o = small (c n) in omega arith
 
 -- a slot of the 64 is free: a node has at most 63 contenders
-pub slot-free : (m : Map) (nd : ℕ → Node) → Nodes (linked m) nd → (k : ℕ) → k < nodes m → (nd k).phase ≡ Request → lowest (nd k).taken < 64
-slot-free m nd inv k l q = ⊎_elim (λ h. h) (λ h. absurd (full h)) (cases_lt (lowest (nd k).taken) 64)
+pub slot_free : (m : Map) (nd : ℕ → Node) → Nodes (linked m) nd → (k : ℕ) → k < nodes m → (nd k).phase ≡ Request → lowest (nd k).taken < 64
+slot_free m nd inv k l q = ⊎_elim (λ h. h) (λ h. absurd (full h)) (cases_lt (lowest (nd k).taken) 64)
   where
     full : 64 ≤ lowest (nd k).taken → ⊥
     full h =
-        let c = crowd (contend m k) (λ i. (nd i).slot) (nodes m) 64 (λ t a b. below-held m nd inv k q t a (omega arith)) in
-        let t = count_miss (contend m k) (nodes m) k l (contend-apart m k) in
+        let c = crowd (contend m k) (λ i. (nd i).slot) (nodes m) 64 (λ t a b. below_held m nd inv k q t a (omega arith)) in
+        let t = count_miss (contend m k) (nodes m) k l (contend_apart m k) in
         let s = m.most in
         omega arith
 
@@ -80,7 +80,7 @@ module _ (m : Map) (nd : ℕ → Node) (inv : Nodes (linked m) nd) (k : ℕ) (q 
   holds-taken t h =
       let (c, l, p) = some_find (λ i. contend m k i && eqb (nd i).slot (suc t)) (nodes m) h in
       let (x, y) = and_parts (contend m k c) (eqb (nd c).slot (suc t)) p in
-      from c (eqb-true (nd c).slot (suc t) y) ((contend-decides m k c).0 x).1
+      from c (eqb-true (nd c).slot (suc t) y) ((contend_decides m k c).0 x).1
     where
       from : (c : ℕ) → (nd c).slot ≡ suc t → (linked m k c ≡ true) ⊎ ((i : ℕ) × (linked m k i ≡ true) × (linked m i c ≡ true)) → marked (nd k).taken t ≡ true
       from c e (inl l) = (inv.grants k c q (all c l)).2 c t (inl refl) e
@@ -94,7 +94,7 @@ module _ (m : Map) (nd : ℕ → Node) (inv : Nodes (linked m) nd) (k : ℕ) (q 
   pub lowest-least : lowest (nd k).taken < 64 → suc (lowest (nd k).taken) ≡ least (contend m) (nodes m) (λ i. (nd i).slot) k
   lowest-least h =
       least_is (contend m) (nodes m) (λ i. (nd i).slot) k (suc (lowest (nd k).taken)) (omega arith)
-      (unheld (cases_Bool (holds (contend m) (nodes m) (λ i. (nd i).slot) k (suc (lowest (nd k).taken))))) (below-held m nd inv k q)
+      (unheld (cases_Bool (holds (contend m) (nodes m) (λ i. (nd i).slot) k (suc (lowest (nd k).taken))))) (below_held m nd inv k q)
     where
       unheld : (holds (contend m) (nodes m) (λ i. (nd i).slot) k (suc (lowest (nd k).taken)) ≡ true) ⊎ (holds (contend m) (nodes m) (λ i. (nd i).slot) k (suc (lowest (nd k).taken)) ≡ false)
           → holds (contend m) (nodes m) (λ i. (nd i).slot) k (suc (lowest (nd k).taken)) ≡ false
@@ -106,18 +106,18 @@ module _ (m : Map) (nd : ℕ → Node) (inv : Nodes (linked m) nd) (k : ℕ) (q 
 module _ (m : Map) (b : Board) (f : Fine m b) (k : ℕ) (l : k < nodes m) (q : (at b k).phase ≡ Request) where
   pub good_up : {A : Type 0} (o : Result A Refusal) → Good m b (record { board = gave_up m b k; sent = fail_all m b k; answer = o })
   good_up o = record {
-    keeps = keeps-put m b f k (phased (at b k) Idle) l (leaves (linked m) (at b) f.nodes k q);
+    keeps = keeps_put m b f k (phased (at b k) Idle) l (leaves (linked m) (at b) f.nodes k q);
     sent = λ x i.
         let (j, near, e) = each_in (linked m k) (fail (at b k).round k) (nodes m) x i in
         subst (λ (y : Message). Said m (at (gave_up m b k)) y) (sym e) (fail_true m (at (gave_up m b k)) (at b k).round k j near gone);
-    moved = inl (same-put m b f k (phased (at b k) Idle) l refl refl);
+    moved = inl (same_put m b f k (phased (at b k) Idle) l refl refl);
   }
     where
       gone : Gone (at (gave_up m b k) k) (at b k).round
       gone = subst (λ (v : Node). Gone v (at b k).round) (sym (here m b f k (phased (at b k) Idle) l)) (inr (refl, idle_quiet.0, f.nodes.calm k q))
 
   free : lowest (at b k).taken < 64
-  free = slot-free m (at b) f.nodes k l q
+  free = slot_free m (at b) f.nodes k l q
 
   -- the nodes once k has decided
   abbrev chosen : Board
@@ -144,7 +144,7 @@ module _ (m : Map) (b : Board) (f : Fine m b) (k : ℕ) (l : k < nodes m) (q : (
         answer = o;
       })
       done = record {
-        keeps = keeps-put m b f k _ l (decides (linked m) (at b) f.nodes k q (λ c h. (f.nodes.grants k c q (all c (m.both k c ∙ h))).1) (lowest (at b k).taken) (suc (decided_count (nodes m) b)) free);
+        keeps = keeps_put m b f k _ l (decides (linked m) (at b) f.nodes k q (λ c h. (f.nodes.grants k c q (all c (m.both k c ∙ h))).1) (lowest (at b k).taken) (suc (decided_count (nodes m) b)) free);
         sent = λ x i.
             let (j, near, e) = each_in (linked m k) (release (slot_for m b k) (at b k).round k) (nodes m) x i in
             subst (λ (y : Message). Said m (at chosen) y) (sym e)

@@ -20,7 +20,7 @@ use Rattle.law.proofs.Turns.{not_zero}
 use Rattle.law.proofs.Marking.{added_new}
 use Rattle.law.proofs.Moves.{Quiet, idle_quiet, release_quiet, binds, learns, opens, counts as grows}
 use Rattle.law.proofs.Sends.{Said, offered-bound, reject_true, release_true, fail_true, grant_true}
-use Rattle.law.proofs.Boards.{Same, Fine, Keeps, Good, keeps-put, here, same-put, good-after, good_stay, good-refused, none-sent, one-sent}
+use Rattle.law.proofs.Boards.{Same, Fine, Keeps, Good, keeps_put, here, same_put, good_after, good_stay, good_refused, none_sent, one_sent}
 use Rattle.law.proofs.Decide.{good_up, good_settle}
 
 pub is-request : (p : Phase) → is_request p ≡ true → p ≡ Request
@@ -55,16 +55,16 @@ module _ (m : Map) (b : Board) (f : Fine m b) where
     inside : x.receiver < nodes m
     inside = m.within x.receiver x.sender back
 
-    good-granting : x.kind ≡ 1 → Quiet (at b x.receiver).phase → Good m b (granting m b x)
-    good-granting e q = record {
+    good_granting : x.kind ≡ 1 → Quiet (at b x.receiver).phase → Good m b (granting m b x)
+    good_granting e q = record {
       keeps = kept;
-      sent = one-sent m (put b x.receiver (bound (at b x.receiver) x.sender x.round)) _ (subst (λ (s : Marks). Said m (at (put b x.receiver (bound (at b x.receiver) x.sender x.round))) (grant s x.round x.receiver x.sender)) same_set
+      sent = one_sent m (put b x.receiver (bound (at b x.receiver) x.sender x.round)) _ (subst (λ (s : Marks). Said m (at (put b x.receiver (bound (at b x.receiver) x.sender x.round))) (grant s x.round x.receiver x.sender)) same_set
           (grant_true m (at (put b x.receiver (bound (at b x.receiver) x.sender x.round))) kept.fine.nodes x.receiver x.sender x.round lock));
-      moved = inl (same-put m b f x.receiver (bound (at b x.receiver) x.sender x.round) inside refl refl);
+      moved = inl (same_put m b f x.receiver (bound (at b x.receiver) x.sender x.round) inside refl refl);
     }
       where
         kept : Keeps m b (put b x.receiver (bound (at b x.receiver) x.sender x.round))
-        kept = keeps-put m b f x.receiver _ inside (binds (linked m) (at b) f.nodes x.receiver q x.sender x.round (m.both x.receiver x.sender ∙ link) (fact.asks e))
+        kept = keeps_put m b f x.receiver _ inside (binds (linked m) (at b) f.nodes x.receiver q x.sender x.round (m.both x.receiver x.sender ∙ link) (fact.asks e))
 
         at_k : at (put b x.receiver (bound (at b x.receiver) x.sender x.round)) x.receiver ≡ bound (at b x.receiver) x.sender x.round
         at_k = here m b f x.receiver (bound (at b x.receiver) x.sender x.round) inside
@@ -75,21 +75,21 @@ module _ (m : Map) (b : Board) (f : Fine m b) where
         lock : Locks (at (put b x.receiver (bound (at b x.receiver) x.sender x.round)) x.receiver) x.sender x.round
         lock = subst (λ (v : Node). Locks v x.sender x.round) (sym at_k) (refl, refl, refl)
 
-    good-request : x.kind ≡ 1 → (p : Phase) → (at b x.receiver).phase ≡ p → Good m b (on_request m b x p)
-    good-request e Idle d = good-granting e (subst (λ (p : Phase). Quiet p) (sym d) idle_quiet)
-    good-request e Request d = good_stay m b _ f refl (one-sent m b _ (reject_true m (at b) x.round x.receiver x.sender back))
-    good-request e Grant d = cond_both (serves (at b x.receiver) x.sender x.round) _ _ (Good m b)
-        (λ h. good_stay m b _ f refl (one-sent m b _ (grant_true m (at b) f.nodes x.receiver x.sender x.round (serves_locks (at b x.receiver) x.sender x.round h))))
-        (λ _. good_stay m b _ f refl (one-sent m b _ (reject_true m (at b) x.round x.receiver x.sender back)))
-    good-request e Release d = good-granting e (subst (λ (p : Phase). Quiet p) (sym d) release_quiet)
+    good_request : x.kind ≡ 1 → (p : Phase) → (at b x.receiver).phase ≡ p → Good m b (on_request m b x p)
+    good_request e Idle d = good_granting e (subst (λ (p : Phase). Quiet p) (sym d) idle_quiet)
+    good_request e Request d = good_stay m b _ f refl (one_sent m b _ (reject_true m (at b) x.round x.receiver x.sender back))
+    good_request e Grant d = cond_both (serves (at b x.receiver) x.sender x.round) _ _ (Good m b)
+        (λ h. good_stay m b _ f refl (one_sent m b _ (grant_true m (at b) f.nodes x.receiver x.sender x.round (serves_locks (at b x.receiver) x.sender x.round h))))
+        (λ _. good_stay m b _ f refl (one_sent m b _ (reject_true m (at b) x.round x.receiver x.sender back)))
+    good_request e Release d = good_granting e (subst (λ (p : Phase). Quiet p) (sym d) release_quiet)
 
     -- a grant that comes too late
-    good-late : x.kind ≡ 2 → waits (at b x.receiver) x.round ≡ false → Good m b (cond (not (eqb (at b x.receiver).slot 0) && eqb (at b x.receiver).dated x.round)
+    good_late : x.kind ≡ 2 → waits (at b x.receiver) x.round ≡ false → Good m b (cond (not (eqb (at b x.receiver).slot 0) && eqb (at b x.receiver).dated x.round)
         (sends m b (release (at b x.receiver).slot x.round x.receiver x.sender ∷ []) 2)
         (sends m b (fail x.round x.receiver x.sender ∷ []) 2))
-    good-late e w = cond_both (not (eqb (at b x.receiver).slot 0) && eqb (at b x.receiver).dated x.round) _ _ (Good m b)
-        (λ h. good_stay m b _ f refl (one-sent m b _ (told (and_parts (not (eqb (at b x.receiver).slot 0)) (eqb (at b x.receiver).dated x.round) h))))
-        (λ h. good_stay m b _ f refl (one-sent m b _ (fail_true m (at b) x.round x.receiver x.sender back (gone h (cases_lt x.round (at b x.receiver).round)))))
+    good_late e w = cond_both (not (eqb (at b x.receiver).slot 0) && eqb (at b x.receiver).dated x.round) _ _ (Good m b)
+        (λ h. good_stay m b _ f refl (one_sent m b _ (told (and_parts (not (eqb (at b x.receiver).slot 0)) (eqb (at b x.receiver).dated x.round) h))))
+        (λ h. good_stay m b _ f refl (one_sent m b _ (fail_true m (at b) x.round x.receiver x.sender back (gone h (cases_lt x.round (at b x.receiver).round)))))
       where
         v : Node
         v = at b x.receiver
@@ -105,26 +105,26 @@ module _ (m : Map) (b : Board) (f : Fine m b) where
 
         gone : (not (eqb (at b x.receiver).slot 0) && eqb (at b x.receiver).dated x.round) ≡ false → (x.round < (at b x.receiver).round) ⊎ ((at b x.receiver).round ≤ x.round) → Gone (at b x.receiver) x.round
         gone h (inl l) = inl l
-        gone h (inr l) = inr (same, (λ p. both_ways (waits (at b x.receiver) x.round) w (and_from (is_request (at b x.receiver).phase) (eqb x.round (at b x.receiver).round) (ap is_request p) (eq-eqb x.round (at b x.receiver).round same))), zero-slot (cases_Bool (eqb (at b x.receiver).slot 0)))
+        gone h (inr l) = inr (same, (λ p. both_ways (waits (at b x.receiver) x.round) w (and_from (is_request (at b x.receiver).phase) (eqb x.round (at b x.receiver).round) (ap is_request p) (eq-eqb x.round (at b x.receiver).round same))), zero_slot (cases_Bool (eqb (at b x.receiver).slot 0)))
           where
             same : x.round ≡ (at b x.receiver).round
             same = let u = (fact.gives e).0 in omega arith
 
-            zero-slot : (eqb (at b x.receiver).slot 0 ≡ true) ⊎ (eqb (at b x.receiver).slot 0 ≡ false) → (at b x.receiver).slot ≡ 0
-            zero-slot (inl t) = eqb-true (at b x.receiver).slot 0 t
-            zero-slot (inr n) = absurd (both_ways (not (eqb (at b x.receiver).slot 0) && eqb (at b x.receiver).dated x.round) h
+            zero_slot : (eqb (at b x.receiver).slot 0 ≡ true) ⊎ (eqb (at b x.receiver).slot 0 ≡ false) → (at b x.receiver).slot ≡ 0
+            zero_slot (inl t) = eqb-true (at b x.receiver).slot 0 t
+            zero_slot (inr n) = absurd (both_ways (not (eqb (at b x.receiver).slot 0) && eqb (at b x.receiver).dated x.round) h
                 (and_from (not (eqb (at b x.receiver).slot 0)) (eqb (at b x.receiver).dated x.round) (ap not n)
                 (eq-eqb (at b x.receiver).dated x.round (f.nodes.dates x.receiver ((at b x.receiver).slot - 1) (has n) ∙ sym same))))
 
     pub counts_kept : x.kind ≡ 2 → Live (at b x.receiver) x.round → Keeps m b (counts m b x)
     counts_kept e live = let (held, sound) = (fact.gives e).1 live in
-        keeps-put m b f x.receiver _ inside (grows (linked m) (at b) f.nodes x.receiver m.apart live.0 x.sender x.slots
+        keeps_put m b f x.receiver _ inside (grows (linked m) (at b) f.nodes x.receiver m.apart live.0 x.sender x.slots
         (subst (λ (r : ℕ). Held (linked m) (at b) x.sender x.receiver r x.slots) (sym live.1) held) sound)
 
     good_count : x.kind ≡ 2 → waits (at b x.receiver) x.round ≡ true → Good m b (cond (complete m (counts m b x) x.receiver) (sends m (settled m (counts m b x) x.receiver) (settled_sent m (counts m b x) x.receiver) 2) (sends m (counts m b x) [] 2))
     good_count e w = cond_both (complete m (counts m b x) x.receiver) _ _ (Good m b)
-        (λ h. good-after m b (counts m b x) _ kept same (good_settle m (counts m b x) kept.fine x.receiver inside (ap (λ (v : Node). v.phase) at_k ∙ live.0) (all h) (Ok 2)))
-        (λ _. record { keeps = kept; sent = none-sent m; moved = inl same })
+        (λ h. good_after m b (counts m b x) _ kept same (good_settle m (counts m b x) kept.fine x.receiver inside (ap (λ (v : Node). v.phase) at_k ∙ live.0) (all h) (Ok 2)))
+        (λ _. record { keeps = kept; sent = none_sent m; moved = inl same })
       where
         live : Live (at b x.receiver) x.round
         live = waits_live (at b x.receiver) x.round w
@@ -133,7 +133,7 @@ module _ (m : Map) (b : Board) (f : Fine m b) where
         kept = counts_kept e live
 
         same : Same b (counts m b x)
-        same = same-put m b f x.receiver (counted (at b x.receiver) x.sender x.slots) inside refl refl
+        same = same_put m b f x.receiver (counted (at b x.receiver) x.sender x.slots) inside refl refl
 
         at_k : at (counts m b x) x.receiver ≡ counted (at b x.receiver) x.sender x.slots
         at_k = here m b f x.receiver (counted (at b x.receiver) x.sender x.slots) inside
@@ -147,25 +147,25 @@ module _ (m : Map) (b : Board) (f : Fine m b) where
                 (some_at (unmarked m (at (counts m b x) x.receiver) x.receiver) (nodes m) c (m.within c x.receiver (m.both c x.receiver ∙ l))
                 (and_from (linked m x.receiver c) (not (marked (at (counts m b x) x.receiver).granted c)) l (ap not n))))
 
-    good-grant : x.kind ≡ 2 → Good m b (on_grant m b x)
-    good-grant e = cond_both (waits (at b x.receiver) x.round) _ _ (Good m b) (good_count e) (good-late e)
+    good_grant : x.kind ≡ 2 → Good m b (on_grant m b x)
+    good_grant e = cond_both (waits (at b x.receiver) x.round) _ _ (Good m b) (good_count e) (good_late e)
 
-    good-reject : Good m b (on_reject m b x)
-    good-reject = cond_both (waits (at b x.receiver) x.round) _ _ (Good m b)
+    good_reject : Good m b (on_reject m b x)
+    good_reject = cond_both (waits (at b x.receiver) x.round) _ _ (Good m b)
         (λ w. good_up m b f x.receiver inside (waits_live (at b x.receiver) x.round w).0 (Ok 3))
-        (λ _. good_stay m b _ f refl (none-sent m))
+        (λ _. good_stay m b _ f refl (none_sent m))
 
-    good-frees : (Live (at b x.sender) x.round → ⊥) → ((j : ℕ) → (at b x.sender).slot ≡ suc j → x.round ≡ (at b x.sender).round → marked (at b x.receiver).heard j ≡ true) → (o : ℕ) → Good m b (sends m (frees m b x) [] o)
-    good-frees over known o = cond_both (serves (at b x.receiver) x.sender x.round) _ _ (λ c. Good m b (sends m c [] o))
+    good_frees : (Live (at b x.sender) x.round → ⊥) → ((j : ℕ) → (at b x.sender).slot ≡ suc j → x.round ≡ (at b x.sender).round → marked (at b x.receiver).heard j ≡ true) → (o : ℕ) → Good m b (sends m (frees m b x) [] o)
+    good_frees over known o = cond_both (serves (at b x.receiver) x.sender x.round) _ _ (λ c. Good m b (sends m c [] o))
         (λ h. record {
-          keeps = keeps-put m b f x.receiver (freed (at b x.receiver)) inside (opens (linked m) (at b) f.nodes x.receiver x.sender x.round (serves_locks (at b x.receiver) x.sender x.round h) over known);
-          sent = none-sent m;
-          moved = inl (same-put m b f x.receiver (freed (at b x.receiver)) inside refl refl);
+          keeps = keeps_put m b f x.receiver (freed (at b x.receiver)) inside (opens (linked m) (at b) f.nodes x.receiver x.sender x.round (serves_locks (at b x.receiver) x.sender x.round h) over known);
+          sent = none_sent m;
+          moved = inl (same_put m b f x.receiver (freed (at b x.receiver)) inside refl refl);
         })
-        (λ _. good_stay m b _ f refl (none-sent m))
+        (λ _. good_stay m b _ f refl (none_sent m))
 
-    good-fail : x.kind ≡ 5 → Good m b (sends m (frees m b x) [] 5)
-    good-fail e = good-frees (λ live. over live (fact.fails e)) (λ j s r. known j s r (fact.fails e)) 5
+    good_fail : x.kind ≡ 5 → Good m b (sends m (frees m b x) [] 5)
+    good_fail e = good_frees (λ live. over live (fact.fails e)) (λ j s r. known j s r (fact.fails e)) 5
       where
         over : Live (at b x.sender) x.round → Gone (at b x.sender) x.round → ⊥
         over live (inl l) = let q = live.1 in omega arith
@@ -176,18 +176,18 @@ module _ (m : Map) (b : Board) (f : Fine m b) where
         known j s r (inr (_, _, z)) = not_zero (at b x.sender).slot j z s
 
 module _ (m : Map) (b : Board) (f : Fine m b) where
-  good-release : (x : Message) → Fact (linked m) (at b) x → linked m x.sender x.receiver ≡ true → x.kind ≡ 4 → Good m b (sends m (frees m (hears m b x) x) [] 4)
-  good-release x fact link e = good-after m b (hears m b x) _ kept same (good-frees m (hears m b x) kept.fine x (kept.facts x fact) link over known 4)
+  good_release : (x : Message) → Fact (linked m) (at b) x → linked m x.sender x.receiver ≡ true → x.kind ≡ 4 → Good m b (sends m (frees m (hears m b x) x) [] 4)
+  good_release x fact link e = good_after m b (hears m b x) _ kept same (good_frees m (hears m b x) kept.fine x (kept.facts x fact) link over known 4)
     where
       in_map : x.receiver < nodes m
       in_map = m.within x.receiver x.sender (m.both x.receiver x.sender ∙ link)
 
       kept : Keeps m b (hears m b x)
       kept = let (j, s, t, r) = fact.tells e in
-          keeps-put m b f x.receiver _ in_map (learns (linked m) (at b) f.nodes x.receiver x.sender x.slot (m.both x.receiver x.sender ∙ link) (let z : (at b x.sender).slot ≡ suc (x.slot - 1) = omega arith in z))
+          keeps_put m b f x.receiver _ in_map (learns (linked m) (at b) f.nodes x.receiver x.sender x.slot (m.both x.receiver x.sender ∙ link) (let z : (at b x.sender).slot ≡ suc (x.slot - 1) = omega arith in z))
 
       same : Same b (hears m b x)
-      same = same-put m b f x.receiver (hearing (at b x.receiver) x.slot) in_map refl refl
+      same = same_put m b f x.receiver (hearing (at b x.receiver) x.slot) in_map refl refl
 
       over : Live (at (hears m b x) x.sender) x.round → ⊥
       over live = let (j, s, t, r) = (kept.facts x fact).tells e in not_zero (at (hears m b x) x.sender).slot j (kept.fine.nodes.calm x.sender live.0) t
@@ -196,21 +196,21 @@ module _ (m : Map) (b : Board) (f : Fine m b) where
       known j d _ = let (i, s, t, r) = (kept.facts x fact).tells e in
           subst (λ (v : Node). marked v.heard j ≡ true) (sym (here m b f x.receiver (hearing (at b x.receiver) x.slot) in_map)) (added_new (at b x.receiver).heard (x.slot - 1) j (let q = kept.fine.nodes.small x.sender in omega arith) (omega arith))
 
-  good-received : (x : Message) → Fact (linked m) (at b) x → Good m b (received m b x)
-  good-received x fact =
-      cond_both (foreign m x) _ _ (Good m b) (λ _. good-refused m b f _) (λ n.
+  good_received : (x : Message) → Fact (linked m) (at b) x → Good m b (received m b x)
+  good_received x fact =
+      cond_both (foreign m x) _ _ (Good m b) (λ _. good_refused m b f _) (λ n.
       let (kinds, rest) = or_parts (eqb x.kind 0 || ltb 5 x.kind) _ n in
       let (low, high) = or_parts (eqb x.kind 0) (ltb 5 x.kind) kinds in
       let link : linked m x.sender x.receiver ≡ true = not-false (linked m x.sender x.receiver) (or_parts (not (linked m x.sender x.receiver)) _ rest).0 in
-      cond_both (eqb x.kind 1) _ _ (Good m b) (λ e. good-request m b f x fact link (eqb-true x.kind 1 e) (at b x.receiver).phase refl) (λ n1.
-      cond_both (eqb x.kind 2) _ _ (Good m b) (λ e. good-grant m b f x fact link (eqb-true x.kind 2 e)) (λ n2.
-      cond_both (eqb x.kind 3) _ _ (Good m b) (λ _. good-reject m b f x fact link) (λ n3.
-      cond_both (eqb x.kind 4) _ _ (Good m b) (λ e. good-release x fact link (eqb-true x.kind 4 e)) (λ n4.
-      good-fail m b f x fact link (omega (arith, eqb-false x.kind 0 low, ltb-false 5 x.kind high, eqb-false x.kind 1 n1, eqb-false x.kind 2 n2, eqb-false x.kind 3 n3, eqb-false x.kind 4 n4)))))))
+      cond_both (eqb x.kind 1) _ _ (Good m b) (λ e. good_request m b f x fact link (eqb-true x.kind 1 e) (at b x.receiver).phase refl) (λ n1.
+      cond_both (eqb x.kind 2) _ _ (Good m b) (λ e. good_grant m b f x fact link (eqb-true x.kind 2 e)) (λ n2.
+      cond_both (eqb x.kind 3) _ _ (Good m b) (λ _. good_reject m b f x fact link) (λ n3.
+      cond_both (eqb x.kind 4) _ _ (Good m b) (λ e. good_release x fact link (eqb-true x.kind 4 e)) (λ n4.
+      good_fail m b f x fact link (omega (arith, eqb-false x.kind 0 low, ltb-false 5 x.kind high, eqb-false x.kind 1 n1, eqb-false x.kind 2 n2, eqb-false x.kind 3 n3, eqb-false x.kind 4 n4)))))))
 
-  pub good-delivered : (o : Option Message) → ((x : Message) → o ≡ Some x → Fact (linked m) (at b) x) → Good m b (delivered m b o)
-  good-delivered None h = good_stay m b _ f refl (none-sent m)
-  good-delivered (Some x) h = good-received x (h x refl)
+  pub good_delivered : (o : Option Message) → ((x : Message) → o ≡ Some x → Fact (linked m) (at b) x) → Good m b (delivered m b o)
+  good_delivered None h = good_stay m b _ f refl (none_sent m)
+  good_delivered (Some x) h = good_received x (h x refl)
 
 -- a message that is not foreign is not refused
 

@@ -14,18 +14,18 @@ use Rattle.rig.specs.Board.{Board, put}
 use Rattle.rig.specs.Steps.{asking, to_all, settled, settled_sent, wins, won, drawn, request}
 use Rattle.law.proofs.Moves.{asks}
 use Rattle.law.proofs.Sends.{Said, each_in, request_true}
-use Rattle.law.proofs.Boards.{Same, Fine, Keeps, Good, keeps-put, here, same-put, good-after, good_stay, good-refused, none-sent}
+use Rattle.law.proofs.Boards.{Same, Fine, Keeps, Good, keeps_put, here, same_put, good_after, good_stay, good_refused, none_sent}
 use Rattle.law.proofs.Decide.{good_settle}
 
 module _ (m : Map) (b : Board) (f : Fine m b) where
-  good-won : (k : ℕ) → k < nodes m → (at b k).slot ≡ 0 → ((at b k).round ≡ 65535 → ⊥) → ((at b k).phase ≡ Grant → ⊥) → Good m b (won m b k)
-  good-won k l e last g = cond_both (some_below (linked m k) (nodes m)) _ _ (Good m b) (λ _. ask) lone
+  good_won : (k : ℕ) → k < nodes m → (at b k).slot ≡ 0 → ((at b k).round ≡ 65535 → ⊥) → ((at b k).phase ≡ Grant → ⊥) → Good m b (won m b k)
+  good_won k l e last g = cond_both (some_below (linked m k) (nodes m)) _ _ (Good m b) (λ _. ask) lone
     where
       kept : Keeps m b (put b k (asking (at b k)))
-      kept = keeps-put m b f k (asking (at b k)) l (asks (linked m) (at b) f.nodes k e last g)
+      kept = keeps_put m b f k (asking (at b k)) l (asks (linked m) (at b) f.nodes k e last g)
 
       same : Same b (put b k (asking (at b k)))
-      same = same-put m b f k (asking (at b k)) l refl refl
+      same = same_put m b f k (asking (at b k)) l refl refl
 
       at_k : at (put b k (asking (at b k))) k ≡ asking (at b k)
       at_k = here m b f k (asking (at b k)) l
@@ -42,18 +42,18 @@ module _ (m : Map) (b : Board) (f : Fine m b) where
 
       lone : some_below (linked m k) (nodes m) ≡ false → Good m b (record { board = settled m (put b k (asking (at b k))) k; sent = settled_sent m (put b k (asking (at b k))) k; answer = Ok Decided })
       lone h =
-          good-after m b (put b k (asking (at b k))) _ kept same
+          good_after m b (put b k (asking (at b k))) _ kept same
           (good_settle m (put b k (asking (at b k))) kept.fine k l (ap (λ (v : Node). v.phase) at_k)
           (λ c q. absurd (both_ways (some_below (linked m k) (nodes m)) h (some_at (linked m k) (nodes m) c (m.within c k (m.both c k ∙ q)) q))) (Ok Decided))
 
-  pub good-drawn : (k v : ℕ) → Good m b (drawn m b k v)
-  good-drawn k v =
+  pub good_drawn : (k v : ℕ) → Good m b (drawn m b k v)
+  good_drawn k v =
       cond_both (ltb k (nodes m)) _ _ (Good m b)
       (λ l. cond_both (eqb (at b k).slot 0) _ _ (Good m b)
-      (λ e. cond_both (is_request (at b k).phase || is_grant (at b k).phase) _ _ (Good m b) (λ _. good-refused m b f _)
-      (λ q. cond_both (eqb (at b k).round 65535) _ _ (Good m b) (λ _. good-refused m b f _)
+      (λ e. cond_both (is_request (at b k).phase || is_grant (at b k).phase) _ _ (Good m b) (λ _. good_refused m b f _)
+      (λ q. cond_both (eqb (at b k).round 65535) _ _ (Good m b) (λ _. good_refused m b f _)
       (λ n. cond_both (wins m k v) _ _ (Good m b)
-      (λ _. good-won k (ltb-true k (nodes m) l) (eqb-true (at b k).slot 0 e) (eqb-false (at b k).round 65535 n) (λ g. both_ways (is_grant (at b k).phase) (or_parts (is_request (at b k).phase) (is_grant (at b k).phase) q).1 (ap is_grant g)))
-      (λ _. good_stay m b _ f refl (none-sent m)))))
-      (λ _. good-refused m b f _))
-      (λ _. good-refused m b f _)
+      (λ _. good_won k (ltb-true k (nodes m) l) (eqb-true (at b k).slot 0 e) (eqb-false (at b k).round 65535 n) (λ g. both_ways (is_grant (at b k).phase) (or_parts (is_request (at b k).phase) (is_grant (at b k).phase) q).1 (ap is_grant g)))
+      (λ _. good_stay m b _ f refl (none_sent m)))))
+      (λ _. good_refused m b f _))
+      (λ _. good_refused m b f _)

@@ -8,10 +8,10 @@ use Rattle.marks.proofs.Below.{count_le}
 use Rattle.map.specs.View.{linked, nodes, contend}
 use Rattle.map.specs.declared.Map.{Map}
 use Rattle.schedule.proofs.Slots.{count_none}
-use Rattle.schedule.proofs.Rand.{rand-none}
+use Rattle.schedule.proofs.Rand.{rand_none}
 use Rattle.radio.specs.Ways.{Ways, AirRule, In, puts}
 use Rattle.radio.specs.declared.message.Message.{Message}
-use Rattle.radio.proofs.Puts.{puts-air}
+use Rattle.radio.proofs.Puts.{puts_air}
 use Rattle.rig.specs.declared.node.Node.{Node}
 use Rattle.rig.specs.Calm.{at, blank}
 use Rattle.rig.specs.Board.{Board, new_board}
@@ -28,16 +28,16 @@ use Rattle.law.proofs.Marking.{none-marked}
 use Rattle.law.proofs.Moves.{idle_quiet}
 use Rattle.law.proofs.Sends.{Said}
 use Rattle.law.proofs.Boards.{Same, Fine, Keeps, Settles, Good, here}
-use Rattle.law.proofs.Decide.{slot-free}
-use Rattle.law.proofs.Draws.{good-drawn}
-use Rattle.law.proofs.Nudges.{good-nudged}
-use Rattle.law.proofs.Deliveries.{is-request, waits_live, counts_kept, good-delivered, delivered_ok}
-use Rattle.law.proofs.Ranks.{each_none, each-one, Ranks, ranks_same, ranks_more, slot-law}
+use Rattle.law.proofs.Decide.{slot_free}
+use Rattle.law.proofs.Draws.{good_drawn}
+use Rattle.law.proofs.Nudges.{good_nudged}
+use Rattle.law.proofs.Deliveries.{is-request, waits_live, counts_kept, good_delivered, delivered_ok}
+use Rattle.law.proofs.Ranks.{each_none, each_one, Ranks, ranks_same, ranks_more, slot_law}
 
 -- a new rig
 
-blank-nodes : (lk : ℕ → ℕ → Bool) → Nodes lk (λ _. blank)
-blank-nodes lk = record {
+blank_nodes : (lk : ℕ → ℕ → Bool) → Nodes lk (λ _. blank)
+blank_nodes lk = record {
   calm = λ a e. refl;
   small = λ a. omega arith;
   few = λ a. omega arith;
@@ -50,11 +50,11 @@ blank-nodes lk = record {
 }
 
 pub new_fine : (m : Map) → Fine m new_board
-new_fine m = record { long = refl; nodes = subst (λ (nd : ℕ → Node). Nodes (linked m) nd) (sym (fun_ext (at-blank 64))) (blank-nodes (linked m)) }
+new_fine m = record { long = refl; nodes = subst (λ (nd : ℕ → Node). Nodes (linked m) nd) (sym (fun_ext (at-blank 64))) (blank_nodes (linked m)) }
 
 pub new_ranks : (m : Map) → Ranks m [] new_board
 new_ranks m = record {
-  slots = λ k l. ap (λ (v : Node). v.slot) (at-blank 64 k) ∙ sym (rand-none (contend m) (nodes m) k);
+  slots = λ k l. ap (λ (v : Node). v.slot) (at-blank 64 k) ∙ sym (rand_none (contend m) (nodes m) k);
   named = λ i l. absurd (let z : ⊥ = omega arith in z);
   all = λ k l h. absurd (let q = ap (λ (v : Node). v.slot) (at-blank 64 k) in let z : ⊥ = omega arith in z);
   none = λ k l e. ap (λ (v : Node). v.turn) (at-blank 64 k);
@@ -76,7 +76,7 @@ module _ (m : Map) where
   ranks_on order b b' (inr (k, s)) r = subst (λ (o : List ℕ). Ranks m (order ++ o) b') (sym one) (ranks_more m order b b' k s r)
     where
       one : deciders m b b' ≡ k ∷ []
-      one = each-one (decides b b') (λ k. k) (nodes m) k s.inside
+      one = each_one (decides b b') (λ k. k) (nodes m) k s.inside
           (and_from (eqb (at b k).slot 0) (not (eqb (at b' k).slot 0)) (eq-eqb (at b k).slot 0 s.before) (ap not (ne_eqb (at b' k).slot 0 (λ e. let p = s.after in let z : ⊥ = omega arith in z))))
           (λ i d. stays_put b b' i (s.others i d).0)
 
@@ -119,13 +119,13 @@ module _ {S : Type 0} (w : Ways S) (rule : AirRule w) (m : Map) where
       moved = g.moved;
       air = λ x h. ⊎_elim
           (λ o. record { fact = g.keeps.facts x (i.air x (old x o)).fact; home = (i.air x (old x o)).home }) (g.sent x)
-          (puts-air w rule t a.sent x h);
+          (puts_air w rule t a.sent x h);
     }
 
     pub goes : (c : Call) → Went (nodes_after w m b s c) (radio_after w m b s c)
-    goes (Draw k v) = went (drawn m b k v) s (good-drawn m b i.fine k v) (λ x h. h)
-    goes Deliver = went (delivered m b (w.taken s)) (w.after_take s) (good-delivered m b i.fine (w.taken s) (λ x e. (taken_said x e).fact)) (rule.take_air s)
-    goes (Nudge k) = went (nudged m b k) s (good-nudged m b i.fine k) (λ x h. h)
+    goes (Draw k v) = went (drawn m b k v) s (good_drawn m b i.fine k v) (λ x h. h)
+    goes Deliver = went (delivered m b (w.taken s)) (w.after_take s) (good_delivered m b i.fine (w.taken s) (λ x e. (taken_said x e).fact)) (rule.take_air s)
+    goes (Nudge k) = went (nudged m b k) s (good_nudged m b i.fine k) (λ x h. h)
 
     pub step : (c : Call) → Inv (order ++ deciders m b (nodes_after w m b s c)) (nodes_after w m b s c) (radio_after w m b s c)
     step c =
@@ -137,7 +137,7 @@ module _ {S : Type 0} (w : Ways S) (rule : AirRule w) (m : Map) where
       single = λ c. at_most_one m b (nodes_after w m b s c) (goes c).moved;
       known = λ x h. (i.air x h).home;
       delivers = delivered_ok m b (w.taken s) (λ x e. (taken_said x e).home);
-      free = λ k l q. slot-free m (at b) i.fine.nodes k l (is-request (at b k).phase q);
+      free = λ k l q. slot_free m (at b) i.fine.nodes k l (is-request (at b k).phase q);
       spare = spare;
     }
       where
@@ -148,7 +148,7 @@ module _ {S : Type 0} (w : Ways S) (rule : AirRule w) (m : Map) where
             let kept = counts_kept m b i.fine x said.fact (link said.home) e live in
             let here' = here m b i.fine x.receiver (counted (at b x.receiver) x.sender x.slots) (inside (link said.home)) in
             subst (λ (v : Node). lowest v.taken < 64) here'
-            (slot-free m (at (counts m b x)) kept.fine.nodes x.receiver (inside (link said.home)) (ap (λ (v : Node). v.phase) here' ∙ live.0))
+            (slot_free m (at (counts m b x)) kept.fine.nodes x.receiver (inside (link said.home)) (ap (λ (v : Node). v.phase) here' ∙ live.0))
           where
             link : foreign m x ≡ false → linked m x.sender x.receiver ≡ true
             link n = not-false (linked m x.sender x.receiver) (or_parts (not (linked m x.sender x.receiver)) _ (or_parts (eqb x.kind 0 || ltb 5 x.kind) _ n).1).0
@@ -157,8 +157,8 @@ module _ {S : Type 0} (w : Ways S) (rule : AirRule w) (m : Map) where
             inside l = m.within x.receiver x.sender (m.both x.receiver x.sender ∙ l)
 
   -- a turn is at most the number of nodes
-  pub turn-few : (order : List ℕ) (b : Board) (s : S) → Inv order b s → (k : ℕ) → k < nodes m → (at b k).turn ≤ 64
-  turn-few order b s i k l = go (cases_eq (at b k).slot 0)
+  pub turn_few : (order : List ℕ) (b : Board) (s : S) → Inv order b s → (k : ℕ) → k < nodes m → (at b k).turn ≤ 64
+  turn_few order b s i k l = go (cases_eq (at b k).slot 0)
     where
       go : ((at b k).slot ≡ 0) ⊎ ((at b k).slot ≡ 0 → ⊥) → (at b k).turn ≤ 64
       go (inl e) = let z = i.ranks.none k l e in omega arith
@@ -179,4 +179,4 @@ module _ {S : Type 0} (w : Ways S) (rule : AirRule w) (m : Map) where
 pub every_run : {S : Type 0} (w : Ways S) → AirRule w → (m : Map) (b : Board) (s : S) → Lawful w m b s
 every_run w rule m b s calls answers order r =
     let i = holds w rule m r.empty r.made in
-    (slot-law m order b i.ranks, unseen w rule m order b s i)
+    (slot_law m order b i.ranks, unseen w rule m order b s i)

@@ -4,7 +4,7 @@ use Rattle.std.proofs.lemmas.Bool.{or_cases, or_left, or_right, eqb-true, eq-eqb
 use Rattle.marks.specs.declared.Marks.{Marks}
 use Rattle.marks.specs.View.{marked}
 use Rattle.marks.specs.Sets.{collect, none, joined, added}
-use Rattle.marks.proofs.Sets.{marked-none, marked-collect, marked-past, fits-collect}
+use Rattle.marks.proofs.Sets.{marked-none, marked-collect, marked_past, fits_collect}
 
 pub none-marked : {A : Type 0} (j : ℕ) → marked none j ≡ true → A
 none-marked j h = absurd (both_ways (marked none j) (marked-none j) h)
@@ -12,13 +12,13 @@ none-marked j h = absurd (both_ways (marked none j) (marked-none j) h)
 collected : (p : ℕ → Bool) (j : ℕ) → marked (collect p) j ≡ true → p j ≡ true
 collected p j h = ⊎_elim
     (λ l. sym (marked-collect p j l) ∙ h)
-    (λ l. absurd (both_ways (marked (collect p) j) (marked-past (collect p) j (fits-collect p) l) h)) (cases_lt j 64)
+    (λ l. absurd (both_ways (marked (collect p) j) (marked_past (collect p) j (fits_collect p) l) h)) (cases_lt j 64)
 
 pub joined_cases : (a b : Marks) (j : ℕ) → marked (joined a b) j ≡ true → (marked a j ≡ true) ⊎ (marked b j ≡ true)
 joined_cases a b j h = or_cases (marked a j) (marked b j) (collected (λ i. marked a i || marked b i) j h)
 
-pub joined-left : (a b : Marks) (j : ℕ) → j < 64 → marked a j ≡ true → marked (joined a b) j ≡ true
-joined-left a b j l h = marked-collect (λ i. marked a i || marked b i) j l ∙ or_left (marked a j) (marked b j) h
+pub joined_left : (a b : Marks) (j : ℕ) → j < 64 → marked a j ≡ true → marked (joined a b) j ≡ true
+joined_left a b j l h = marked-collect (λ i. marked a i || marked b i) j l ∙ or_left (marked a j) (marked b j) h
 
 pub joined_right : (a b : Marks) (j : ℕ) → j < 64 → marked b j ≡ true → marked (joined a b) j ≡ true
 joined_right a b j l h = marked-collect (λ i. marked a i || marked b i) j l ∙ or_right (marked a j) (marked b j) h

@@ -10,7 +10,7 @@ use Rattle.marks.specs.Sets.{joined}
 use Rattle.rig.specs.Steps.{asking, bound, counted, decided, phased, hearing, freed}
 use Rattle.law.proofs.Facts.{Locks, Live, Near, Contends, Sound, Held, Nodes, Turn}
 use Rattle.law.proofs.Turns.{not_both, not_zero}
-use Rattle.law.proofs.Marking.{none-marked, joined_cases, joined-left, joined_right, added_cases, added_old}
+use Rattle.law.proofs.Marking.{none-marked, joined_cases, joined_left, joined_right, added_cases, added_old}
 
 -- neither waiting nor in grant
 abbrev pub Quiet : Phase → Type 0
@@ -115,7 +115,7 @@ module _ (lk : ℕ → ℕ → Bool) (nd : ℕ → Node) (inv : Nodes lk nd) (k 
       small c j e = let l = inv.small c in omega arith
 
       old : (b : ℕ) → marked (nd k).granted b ≡ true → Held lk nd b k (nd k).round (joined (nd k).taken s)
-      old b h = let (l, lock, full) = inv.grants k b q h in (l, lock, λ c j n e. joined-left (nd k).taken s j (small c j e) (full c j n e))
+      old b h = let (l, lock, full) = inv.grants k b q h in (l, lock, λ c j n e. joined_left (nd k).taken s j (small c j e) (full c j n e))
 
       new : (b : ℕ) → b ≡ a → Held lk nd b k (nd k).round (joined (nd k).taken s)
       new b e = subst (λ (i : ℕ). Held lk nd i k (nd k).round (joined (nd k).taken s)) (sym e) (held.0, held.1, λ c j n d. joined_right (nd k).taken s j (small c j d) (held.2 c j n d))

@@ -11,18 +11,18 @@ use Rattle.rig.specs.Calm.{at}
 use Rattle.rig.specs.Board.{Board}
 use Rattle.rig.specs.Steps.{unmarked, nudges, nudged, request}
 use Rattle.law.proofs.Sends.{Said, each_in, request_true, grant_true}
-use Rattle.law.proofs.Boards.{Fine, Good, good_stay, good-refused, one-sent}
+use Rattle.law.proofs.Boards.{Fine, Good, good_stay, good_refused, one_sent}
 
 module _ (m : Map) (b : Board) (f : Fine m b) where
-  good-nudges : (k : ℕ) → (p : Phase) → (at b k).phase ≡ p → Good m b (nudges m b k p)
-  good-nudges k Idle e = good-refused m b f _
-  good-nudges k Request e =
+  good_nudges : (k : ℕ) → (p : Phase) → (at b k).phase ≡ p → Good m b (nudges m b k p)
+  good_nudges k Idle e = good_refused m b f _
+  good_nudges k Request e =
       good_stay m b _ f refl (λ x i.
       let (j, open', d) = each_in (unmarked m (at b k) k) (request (at b k).round k) (nodes m) x i in
       let near = (and_parts (linked m k j) (not (marked (at b k).granted j)) open').0 in
       subst (λ (y : Message). Said m (at b) y) (sym d) (request_true m (at b) (at b k).round k j near (omega arith)))
-  good-nudges k Grant e = good_stay m b _ f refl (one-sent m b _ (grant_true m (at b) f.nodes k (at b k).holder (at b k).term (e, refl, refl)))
-  good-nudges k Release e = good-refused m b f _
+  good_nudges k Grant e = good_stay m b _ f refl (one_sent m b _ (grant_true m (at b) f.nodes k (at b k).holder (at b k).term (e, refl, refl)))
+  good_nudges k Release e = good_refused m b f _
 
-  pub good-nudged : (k : ℕ) → Good m b (nudged m b k)
-  good-nudged k = cond_both (ltb k (nodes m)) _ _ (Good m b) (λ _. good-nudges k (at b k).phase refl) (λ _. good-refused m b f _)
+  pub good_nudged : (k : ℕ) → Good m b (nudged m b k)
+  good_nudged k = cond_both (ltb k (nodes m)) _ _ (Good m b) (λ _. good_nudges k (at b k).phase refl) (λ _. good_refused m b f _)

@@ -6,14 +6,14 @@ use Rattle.marks.specs.Below.{sum_below, count_below}
 use Rattle.marks.proofs.Below.{count_like, max_like}
 use Rattle.map.specs.View.{nodes, contend}
 use Rattle.map.specs.declared.Map.{Map}
-use Rattle.map.proofs.Contends.{contend_mutual, contend-apart}
+use Rattle.map.proofs.Contends.{contend_mutual, contend_apart}
 use Rattle.schedule.specs.Rand.{rand, Fine, Named, IsRand}
 use Rattle.schedule.specs.Order.{entries}
 use Rattle.schedule.specs.Sharing.{Checked}
 use Rattle.schedule.specs.declared.checking.Verdict.TheVariants.{Accepted}
 use Rattle.schedule.proofs.Slots.{least_like}
-use Rattle.schedule.proofs.Rand.{rand_push_same, rand_push_other, rand_like, rand-low}
-use Rattle.schedule.proofs.Accept.{rand-accepted, largest_is}
+use Rattle.schedule.proofs.Rand.{rand_push_same, rand_push_other, rand_like, rand_low}
+use Rattle.schedule.proofs.Accept.{rand_accepted, largest_is}
 use Rattle.rig.specs.Calm.{at}
 use Rattle.rig.specs.Board.{Board, each, decided_count}
 use Rattle.law.specs.Law.{Tells, SlotLaw, frame}
@@ -26,10 +26,10 @@ unfolding each
 each_none p f zero h = refl
 each_none {A} p f (suc n) h = ap₂ (λ (xs : List A) (v : Bool). xs ++ cond v (f n ∷ []) []) (each_none p f n (λ k l. h k (omega arith))) (h n (omega arith))
 
-pub each-one : {A : Type 0} (p : ℕ → Bool) (f : ℕ → A) (n k : ℕ) → k < n → p k ≡ true → ((i : ℕ) → (i ≡ k → ⊥) → p i ≡ false) → each p f n ≡ f k ∷ []
+pub each_one : {A : Type 0} (p : ℕ → Bool) (f : ℕ → A) (n k : ℕ) → k < n → p k ≡ true → ((i : ℕ) → (i ≡ k → ⊥) → p i ≡ false) → each p f n ≡ f k ∷ []
 unfolding each
-each-one p f zero k l t h = absurd (let z : ⊥ = omega arith in z)
-each-one {A} p f (suc n) k l t h = go (λ g. each-one p f n k g t h) (cases_eq n k)
+each_one p f zero k l t h = absurd (let z : ⊥ = omega arith in z)
+each_one {A} p f (suc n) k l t h = go (λ g. each_one p f n k g t h) (cases_eq n k)
   where
     go : (k < n → each p f n ≡ f k ∷ []) → (n ≡ k) ⊎ (n ≡ k → ⊥) → each p f n ++ cond (p n) (f n ∷ []) [] ≡ f k ∷ []
     go ih (inl e) =
@@ -104,8 +104,8 @@ module _ (m : Map) where
       whole i l h (inr d) = let (j, g, e) = r.all i l (subst (λ (v : ℕ). 0 < v) (s.others i d).0 h) in
           (j, (let q = length_push order k in omega arith), get_or_append_left order (k ∷ []) 0 j g ∙ e)
 
-  pub slot-law : (order : List ℕ) (b : Board) → Ranks order b → SlotLaw m order b
-  slot-law order b r = record {
+  pub slot_law : (order : List ℕ) (b : Board) → Ranks order b → SlotLaw m order b
+  slot_law order b r = record {
     fine = fine;
     decided = λ k l (i, g, e) z. let h = (r.named i g).1 in let y = ap (λ (j : ℕ). (at b j).slot) e ∙ z in omega arith;
     undecided = unslotted;
@@ -114,7 +114,7 @@ module _ (m : Map) where
     slots = r.slots;
     relation = is_rand;
     accepted = λ table t. accepted table t;
-    low = λ i l. rand-low (contend m) (nodes m) order (λ k. (at b k).slot) is_rand i l;
+    low = λ i l. rand_low (contend m) (nodes m) order (λ k. (at b k).slot) is_rand i l;
   }
     where
       fine : Fine (nodes m) order
@@ -135,5 +135,5 @@ module _ (m : Map) where
 
       accepted : (table : List ℕ) → Tells m b table → Checked (contend m) (nodes m) table (Ok (Accepted (frame m b)))
       accepted table t =
-          let (v, c) = rand-accepted (contend m) (nodes m) (contend_mutual m) (contend-apart m) order table t.long (rand_like (contend m) (nodes m) order (entries table) fine (λ k l. t.each k l ∙ r.slots k l)) in
+          let (v, c) = rand_accepted (contend m) (nodes m) (contend_mutual m) (contend_apart m) order table t.long (rand_like (contend m) (nodes m) order (entries table) fine (λ k l. t.each k l ∙ r.slots k l)) in
           subst (λ (x : ℕ). Checked (contend m) (nodes m) table (Ok (Accepted x))) (largest_is (nodes m) table v c.1.1 ∙ max_like (entries table) (λ k. (at b k).slot) (nodes m) t.each) c

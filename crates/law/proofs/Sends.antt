@@ -28,13 +28,13 @@ each_in {A} p f (suc n) x h = ⊎_elim (λ i. each_in p f n x i) (last (p n) ref
 
 -- what a grant holds
 
-offered-at : (v : Node) → (j : ℕ) → v.slot ≡ suc j → offered v ≡ added v.heard (v.slot - 1)
+offered_at : (v : Node) → (j : ℕ) → v.slot ≡ suc j → offered v ≡ added v.heard (v.slot - 1)
 unfolding offered
-offered-at v j e = cond-false (eqb v.slot 0) v.heard (added v.heard (v.slot - 1)) (ne_eqb v.slot 0 (λ z. omega arith))
+offered_at v j e = cond-false (eqb v.slot 0) v.heard (added v.heard (v.slot - 1)) (ne_eqb v.slot 0 (λ z. omega arith))
 
-offered-none : (v : Node) → v.slot ≡ 0 → offered v ≡ v.heard
+offered_none : (v : Node) → v.slot ≡ 0 → offered v ≡ v.heard
 unfolding offered
-offered-none v e = cond-true (eqb v.slot 0) v.heard (added v.heard (v.slot - 1)) (eq-eqb v.slot 0 e)
+offered_none v e = cond-true (eqb v.slot 0) v.heard (added v.heard (v.slot - 1)) (eq-eqb v.slot 0 e)
 
 pub offered-bound : (v : Node) (a r : ℕ) → offered (bound v a r) ≡ offered v
 unfolding offered
@@ -45,18 +45,18 @@ cases_slot zero = inl refl
 cases_slot (suc j) = inr (j, refl)
 
 offered_own : (v : Node) (j : ℕ) → v.slot ≤ 64 → v.slot ≡ suc j → marked (offered v) j ≡ true
-offered_own v j l e = subst (λ (s : Marks). marked s j ≡ true) (sym (offered-at v j e)) (added_new v.heard (v.slot - 1) j (omega arith) (omega arith))
+offered_own v j l e = subst (λ (s : Marks). marked s j ≡ true) (sym (offered_at v j e)) (added_new v.heard (v.slot - 1) j (omega arith) (omega arith))
 
 offered_heard : (v : Node) (j : ℕ) → j < 64 → marked v.heard j ≡ true → marked (offered v) j ≡ true
 offered_heard v j l h = ⊎_elim
-    (λ e. subst (λ (s : Marks). marked s j ≡ true) (sym (offered-none v e)) h)
-    (λ (i, e). subst (λ (s : Marks). marked s j ≡ true) (sym (offered-at v i e)) (added_old v.heard (v.slot - 1) j l h))
+    (λ e. subst (λ (s : Marks). marked s j ≡ true) (sym (offered_none v e)) h)
+    (λ (i, e). subst (λ (s : Marks). marked s j ≡ true) (sym (offered_at v i e)) (added_old v.heard (v.slot - 1) j l h))
     (cases_slot v.slot)
 
 offered_cases : (v : Node) (j : ℕ) → marked (offered v) j ≡ true → (marked v.heard j ≡ true) ⊎ (v.slot ≡ suc j)
 offered_cases v j h = ⊎_elim
-    (λ e. inl (subst (λ (s : Marks). marked s j ≡ true) (offered-none v e) h))
-    (λ (i, e). ⊎_elim inl (λ d. inr (let z : v.slot ≡ suc j = omega arith in z)) (added_cases v.heard (v.slot - 1) j (subst (λ (s : Marks). marked s j ≡ true) (offered-at v i e) h)))
+    (λ e. inl (subst (λ (s : Marks). marked s j ≡ true) (offered_none v e) h))
+    (λ (i, e). ⊎_elim inl (λ d. inr (let z : v.slot ≡ suc j = omega arith in z)) (added_cases v.heard (v.slot - 1) j (subst (λ (s : Marks). marked s j ≡ true) (offered_at v i e) h)))
     (cases_slot v.slot)
 
 -- what is said

@@ -8,7 +8,7 @@ use Rattle.marks.specs.declared.Marks.{Marks}
 use Rattle.marks.proofs.Below.{sum_past, square, count_like, count_le}
 use Rattle.map.specs.View.{nodes, linked, contend, Contend, degree, contender_count, pairs, link_count}
 use Rattle.map.specs.declared.Map.{Map}
-use Rattle.map.proofs.Contends.{contend-decides, contend-past}
+use Rattle.map.proofs.Contends.{contend_decides, contend_past}
 
 -- a set of nodes below the count has as many marks as there are such nodes
 size_below : (s : Marks) (p : ℕ → Bool) (n : ℕ) → n ≤ 64 → ((b : ℕ) → marked s b ≡ p b) → ((b : ℕ) → n ≤ b → p b ≡ false) → size s ≡ count_below p n
@@ -23,8 +23,8 @@ handshake r swap apart n =
     square (λ a b. cond (r a b) 1 0) (λ a b. ap (λ (v : Bool). cond {A = ℕ} v 1 0) (swap a b)) (λ a. ap (λ (v : Bool). cond {A = ℕ} v 1 0) (apart a)) n
 
 module _ (m : Map) where
-  linked-past : (a b : ℕ) → nodes m ≤ b → linked m a b ≡ false
-  linked-past a b l = go (cases_Bool (linked m a b))
+  linked_past : (a b : ℕ) → nodes m ≤ b → linked m a b ≡ false
+  linked_past a b l = go (cases_Bool (linked m a b))
     where
       go : (linked m a b ≡ true) ⊎ (linked m a b ≡ false) → linked m a b ≡ false
       go (inl t) = absurd (let k = m.within b a (m.both b a ∙ t) in let f : ⊥ = omega arith in f)
@@ -32,14 +32,14 @@ module _ (m : Map) where
 
   -- no node past the count is linked
   pub linked_off : (a b : ℕ) → nodes m ≤ a → linked m a b ≡ false
-  linked_off a b l = m.both a b ∙ linked-past b a l
+  linked_off a b l = m.both a b ∙ linked_past b a l
 
   pub size_neighbours : (n : ℕ) (s : Marks) → ((b : ℕ) → marked s b ≡ linked m n b) → size s ≡ degree m n
-  size_neighbours n s same = size_below s (linked m n) (nodes m) m.most same (linked-past n)
+  size_neighbours n s same = size_below s (linked m n) (nodes m) m.most same (linked_past n)
 
-  pub size-contenders : (n : ℕ) (s : Marks) → ((b : ℕ) → Decides (marked s b) (Contend m n b)) → size s ≡ contender_count m n
-  size-contenders n s same =
-      size_below s (contend m n) (nodes m) m.most (λ b. same_from_decides (marked s b) (contend m n b) (same b) (contend-decides m n b)) (contend-past m n)
+  pub size_contenders : (n : ℕ) (s : Marks) → ((b : ℕ) → Decides (marked s b) (Contend m n b)) → size s ≡ contender_count m n
+  size_contenders n s same =
+      size_below s (contend m n) (nodes m) m.most (λ b. same_from_decides (marked s b) (contend m n b) (same b) (contend_decides m n b)) (contend_past m n)
 
   pub twice_links : sum_below (degree m) (nodes m) ≡ 2 * link_count m
   twice_links = handshake (linked m) m.both m.apart (nodes m)

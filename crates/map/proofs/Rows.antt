@@ -27,28 +27,28 @@ module _ (rows : List Marks) (none : (a b : ℕ) → has rows a b ≡ false) whe
   pub bare_within : (n : ℕ) → Within n rows
   bare_within n a b t = absurd (both_ways (has rows a b) (none a b) t)
 
-pub bare-net : (n : ℕ) (lk : ℕ → ℕ → Bool) → ((a b : ℕ) → lk a b ≡ false) → ◌≡◌ {A = Net} (record { size = n; links = lk }) (bare n)
-bare-net n lk none = ap (λ (f : ℕ → ℕ → Bool). record { size = n; links = f }) (fun_ext (λ a. fun_ext (λ b. none a b)))
+pub bare_net : (n : ℕ) (lk : ℕ → ℕ → Bool) → ((a b : ℕ) → lk a b ≡ false) → ◌≡◌ {A = Net} (record { size = n; links = lk }) (bare n)
+bare_net n lk none = ap (λ (f : ℕ → ℕ → Bool). record { size = n; links = f }) (fun_ext (λ a. fun_ext (λ b. none a b)))
 
 -- the rows a and b changed
 
-ends-swap : (p q r s : Bool) → ((p && q) || (r && s)) ≡ ((s && r) || (q && p))
-ends-swap true true true true = refl
-ends-swap true true true false = refl
-ends-swap true true false true = refl
-ends-swap true true false false = refl
-ends-swap true false true true = refl
-ends-swap true false true false = refl
-ends-swap true false false true = refl
-ends-swap true false false false = refl
-ends-swap false true true true = refl
-ends-swap false true true false = refl
-ends-swap false true false true = refl
-ends-swap false true false false = refl
-ends-swap false false true true = refl
-ends-swap false false true false = refl
-ends-swap false false false true = refl
-ends-swap false false false false = refl
+ends_swap : (p q r s : Bool) → ((p && q) || (r && s)) ≡ ((s && r) || (q && p))
+ends_swap true true true true = refl
+ends_swap true true true false = refl
+ends_swap true true false true = refl
+ends_swap true true false false = refl
+ends_swap true false true true = refl
+ends_swap true false true false = refl
+ends_swap true false false true = refl
+ends_swap true false false false = refl
+ends_swap false true true true = refl
+ends_swap false true true false = refl
+ends_swap false true false true = refl
+ends_swap false true false false = refl
+ends_swap false false true true = refl
+ends_swap false false true false = refl
+ends_swap false false false true = refl
+ends_swap false false false false = refl
 
 -- a pair whose first end is b, is a, or is neither
 at_b : (h p q r s : Bool) → p ≡ false → r ≡ true → (h || s) ≡ (h || ((p && q) || (r && s)))
@@ -103,7 +103,7 @@ module _ (rows : List Marks) (a b : ℕ) (ra rb : Marks) (la : a < length rows) 
 
   pub still_mutual : Mutual rows → Mutual after
   still_mutual h x y =
-      one_link x y ∙ ap₂ (λ (p q : Bool). p || q) (h x y) (ends-swap (eqb x a) (eqb y b) (eqb x b) (eqb y a)) ∙ sym (one_link y x)
+      one_link x y ∙ ap₂ (λ (p q : Bool). p || q) (h x y) (ends_swap (eqb x a) (eqb y b) (eqb x b) (eqb y a)) ∙ sym (one_link y x)
 
   pub still_apart : Apart rows → Apart after
   still_apart h x =

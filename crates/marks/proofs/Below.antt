@@ -4,9 +4,9 @@ use Rattle.std.proofs.lemmas.Bool.{cases_eq}
 use Rattle.std.proofs.lemmas.Bool.Decides.{Decides-below_or}
 use Rattle.marks.specs.Below.{some_below, sum_below, count_below, max_below}
 
-pub some-decides : (p : ℕ → Bool) (P : ℕ → Type 0) → ((k : ℕ) → Decides (p k) (P k)) → (n : ℕ) → Decides (some_below p n) ((k : ℕ) × (k < n) × P k)
+pub some_decides : (p : ℕ → Bool) (P : ℕ → Type 0) → ((k : ℕ) → Decides (p k) (P k)) → (n : ℕ) → Decides (some_below p n) ((k : ℕ) × (k < n) × P k)
 unfolding some_below
-some-decides p P each n = Decides-below_or p P (some_below p) each refl (λ _. refl) n
+some_decides p P each n = Decides-below_or p P (some_below p) each refl (λ _. refl) n
 
 pub sum_more : (f : ℕ → ℕ) (n : ℕ) → sum_below f (n + 1) ≡ sum_below f n + f n
 unfolding sum_below
@@ -69,10 +69,10 @@ unfolding max_below
 max_like f g zero h = refl
 max_like f g (suc n) h = ap₂ (λ (x y : ℕ). max x y) (max_like f g n (λ i l. h i (omega arith))) (h n (omega arith))
 
-pub max-above : (f : ℕ → ℕ) (n i : ℕ) → i < n → f i ≤ max_below f n
+pub max_above : (f : ℕ → ℕ) (n i : ℕ) → i < n → f i ≤ max_below f n
 unfolding max_below
-max-above f zero i l = absurd (let z : ⊥ = omega arith in z)
-max-above f (suc n) i l = go (cases_eq i n) (λ q. max-above f n i q)
+max_above f zero i l = absurd (let z : ⊥ = omega arith in z)
+max_above f (suc n) i l = go (cases_eq i n) (λ q. max_above f n i q)
   where
     go : (i ≡ n) ⊎ (i ≡ n → ⊥) → (i < n → f i ≤ max_below f n) → f i ≤ max (max_below f n) (f n)
     go (inl e) ih = let d = ap f e in omega arith

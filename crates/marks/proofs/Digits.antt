@@ -69,9 +69,9 @@ bit-xor a b i =
 
 -- where a number has no digit
 
-pub bit-zero : (i : ℕ) → bit 0 i ≡ false
+pub bit_zero : (i : ℕ) → bit 0 i ≡ false
 unfolding bit
-bit-zero i = ap (λ (x : ℕ). eqb (x % 2) 1) (div-eq_of_lt (pow_pos i))
+bit_zero i = ap (λ (x : ℕ). eqb (x % 2) 1) (div-eq_of_lt (pow_pos i))
 
 -- a number of k digits has none at k or above
 pub bit_past : (n k i : ℕ) → n < 2 ^ k → k ≤ i → bit n i ≡ false

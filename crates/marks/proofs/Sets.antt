@@ -4,29 +4,29 @@ use Rattle.std.proofs.lemmas.Bool.{cases_eq, ne_eqb}
 use Rattle.marks.specs.View.{marked, Fits}
 use Rattle.marks.specs.Sets.{collect, none}
 use Rattle.marks.specs.declared.Marks.{Marks}
-use Rattle.marks.proofs.Digits.{bit-zero, bit_past, bit-made, made_lt, same_digits}
+use Rattle.marks.proofs.Digits.{bit_zero, bit_past, bit-made, made_lt, same_digits}
 
 -- two sets with the same marks are equal
-pub same-marks : (a b : Marks) → Fits a → Fits b → ((j : ℕ) → j < 64 → marked a j ≡ marked b j) → a ≡ b
-same-marks a b h l f = ap (λ (n : ℕ). record { bits = n }) (same_digits 64 a.bits b.bits h l f)
+pub same_marks : (a b : Marks) → Fits a → Fits b → ((j : ℕ) → j < 64 → marked a j ≡ marked b j) → a ≡ b
+same_marks a b h l f = ap (λ (n : ℕ). record { bits = n }) (same_digits 64 a.bits b.bits h l f)
 
-pub marked-past : (m : Marks) (j : ℕ) → Fits m → 64 ≤ j → marked m j ≡ false
-marked-past m j h l = bit_past m.bits 64 j h l
+pub marked_past : (m : Marks) (j : ℕ) → Fits m → 64 ≤ j → marked m j ≡ false
+marked_past m j h l = bit_past m.bits 64 j h l
 
-pub fits-collect : (p : ℕ → Bool) → Fits (collect p)
+pub fits_collect : (p : ℕ → Bool) → Fits (collect p)
 unfolding collect
-fits-collect p = made_lt p 64
+fits_collect p = made_lt p 64
 
 pub marked-collect : (p : ℕ → Bool) (j : ℕ) → j < 64 → marked (collect p) j ≡ p j
 unfolding collect
 marked-collect p j l = bit-made p 64 j l
 
 pub marked-none : (j : ℕ) → marked none j ≡ false
-marked-none j = bit-zero j
+marked-none j = bit_zero j
 
 -- a set whose marks are the numbers that pass
 pub is_collect : (m : Marks) (p : ℕ → Bool) → Fits m → ((j : ℕ) → j < 64 → marked m j ≡ p j) → m ≡ collect p
-is_collect m p h f = same-marks m (collect p) h (fits-collect p) (λ j l. f j l ∙ sym (marked-collect p j l))
+is_collect m p h f = same_marks m (collect p) h (fits_collect p) (λ j l. f j l ∙ sym (marked-collect p j l))
 
 -- a mark added that is none, and one taken away that is not there
 

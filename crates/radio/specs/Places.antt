@@ -33,13 +33,13 @@ module _ (xs : List Message) (full : length xs ≡ 256) where
       let len : length (take n xs) ≡ n = length-take-le n xs (omega arith) in
       ap (λ (m : Message). Some m) (sym (get_or-take n xs i blank h)) ∙ sym (slice_get-get_or (take n xs) i blank (omega arith))
 
-  pub at-past : (n i : ℕ) → n ≤ 256 → n ≤ i → None ≡ slice_get (take n xs) i
-  at-past n i l h =
+  pub at_past : (n i : ℕ) → n ≤ 256 → n ≤ i → None ≡ slice_get (take n xs) i
+  at_past n i l h =
       let len : length (take n xs) ≡ n = length-take-le n xs (omega arith) in
       sym (slice_get_past (take n xs) i (omega arith))
 
-pub removed-past : (ms : List Message) (i : ℕ) → length ms ≤ i → ms ≡ remove ms i
-removed-past ms i h = sym (ap₂ (λ (x y : List Message). x ++ y) (take_all i ms h) (drop_all (suc i) ms (omega arith)) ∙ append-nil ms)
+pub removed_past : (ms : List Message) (i : ℕ) → length ms ≤ i → ms ≡ remove ms i
+removed_past ms i h = sym (ap₂ (λ (x y : List Message). x ++ y) (take_all i ms h) (drop_all (suc i) ms (omega arith)) ∙ append-nil ms)
 
 -- the messages after a place, each moved down by one
 

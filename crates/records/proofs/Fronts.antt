@@ -39,9 +39,9 @@ module _ (job : List ℕ) where
   good_link zero l = absurd (let f : ⊥ = omega arith in f)
   good_link (suc p) l = refl
 
-  front-none : bare (count_in job) ≡ front job 0
+  front_none : bare (count_in job) ≡ front job 0
   unfolding some_below
-  front-none = refl
+  front_none = refl
 
   or_swap : (x y : Bool) → (x || y) ≡ (y || x)
   or_swap true true = refl
@@ -49,9 +49,9 @@ module _ (job : List ℕ) where
   or_swap false true = refl
   or_swap false false = refl
 
-  front-more : (k : ℕ) → linked_up (front job k) (byte job (suc k) 1) (byte job (suc k) 2) ≡ front job (suc k)
+  front_more : (k : ℕ) → linked_up (front job k) (byte job (suc k) 1) (byte job (suc k) 2) ≡ front job (suc k)
   unfolding some_below
-  front-more k =
+  front_more k =
       ap (λ (f : ℕ → ℕ → Bool). record { size = count_in job; links = f })
       (fun_ext (λ x. fun_ext (λ y. or_swap (some_below (λ i. names job (suc i) x y) k) (names job (suc k) x y))))
 
@@ -69,8 +69,8 @@ refused_unfit job e r = r
 
 -- what a reader hands out
 
-pub handed-some : (job xs : List ℕ) (p : ℕ) → Some xs ≡ handed job p → (p < records job) × (xs ≡ record_at job p)
-handed-some job xs p e = go (cases_Bool (ltb p (records job)))
+pub handed_some : (job xs : List ℕ) (p : ℕ) → Some xs ≡ handed job p → (p < records job) × (xs ≡ record_at job p)
+handed_some job xs p e = go (cases_Bool (ltb p (records job)))
   where
     go : (ltb p (records job) ≡ true) ⊎ (ltb p (records job) ≡ false) → (p < records job) × (xs ≡ record_at job p)
     go (inl t) =
@@ -81,8 +81,8 @@ handed-some job xs p e = go (cases_Bool (ltb p (records job)))
         let z : ◌≡◌ {A = ℕ} 0 1 = cc in
         absurd (omega arith)
 
-pub handed-none : (job : List ℕ) (p : ℕ) → None ≡ handed job p → records job ≤ p
-handed-none job p e = go (cases_Bool (ltb p (records job)))
+pub handed_none : (job : List ℕ) (p : ℕ) → None ≡ handed job p → records job ≤ p
+handed_none job p e = go (cases_Bool (ltb p (records job)))
   where
     go : (ltb p (records job) ≡ true) ⊎ (ltb p (records job) ≡ false) → records job ≤ p
     go (inl t) =
@@ -94,7 +94,7 @@ handed-none job p e = go (cases_Bool (ltb p (records job)))
 -- a reader over the bytes j of the job, at the place p, which then stood at q, handed out xs
 module _ (job j xs : List ℕ) (p q : ℕ) (same : j ≡ job) (value : Some xs ≡ handed j p) (place : q ≡ cond (ltb p (records j)) (p + 1) p) where
   pub was : (p < records job) × (xs ≡ record_at job p)
-  was = handed-some job xs p (value ∙ ap (λ (b : List ℕ). handed b p) same)
+  was = handed_some job xs p (value ∙ ap (λ (b : List ℕ). handed b p) same)
 
   pub moved : q ≡ p + 1
   moved = place ∙ ap (λ (b : List ℕ). cond (ltb p (records b)) (p + 1) p) same ∙ ap (λ (b : Bool). cond b (p + 1) p) (lt-ltb p (records job) was.0)
@@ -119,8 +119,8 @@ module _ (job j xs : List ℕ) (p q : ℕ) (same : j ≡ job) (value : Some xs �
       let w = was.0 in
       record { before = λ i l. each i (omega arith); bad = ap fit (sym b) ∙ here; there = inl (omega arith) }
 
-  good-first : p ≡ 0 → opens (taken xs) ≡ good job p
-  good-first z =
+  good_first : p ≡ 0 → opens (taken xs) ≡ good job p
+  good_first z =
       ap (λ (b : List ℕ). opens (taken b)) was.1 ∙ ap (λ (i : ℕ). opens (taken (record_at job i))) z
       ∙ ap (good job) (sym z)
 
@@ -133,12 +133,12 @@ module _ (job j xs : List ℕ) (p q : ℕ) (same : j ≡ job) (value : Some xs �
         same = s ∙ same;
         past = omega arith;
         inside = omega arith;
-        each = fit_on (good job) (λ i l. absurd (let n : ⊥ = omega arith in n)) (sym (good-first z) ∙ t);
-        made = e ∙ ap bare (byte_is 1 (omega arith) ∙ ap (λ (i : ℕ). byte job i 1) z) ∙ front-none job ∙ ap (front job) (sym o);
+        each = fit_on (good job) (λ i l. absurd (let n : ⊥ = omega arith in n)) (sym (good_first z) ∙ t);
+        made = e ∙ ap bare (byte_is 1 (omega arith) ∙ ap (λ (i : ℕ). byte job i 1) z) ∙ front_none job ∙ ap (front job) (sym o);
       }
 
-  pub first-bad : (r : ℕ) → p ≡ 0 → opens (taken xs) ≡ false → r ≡ q - 1 → FirstBad job r
-  first-bad r z f e = unfit_bad job r (fit_no_more (good job) r (λ i l. absurd (let n : ⊥ = omega arith in n)) (sym (good-first z) ∙ f) e)
+  pub first_bad : (r : ℕ) → p ≡ 0 → opens (taken xs) ≡ false → r ≡ q - 1 → FirstBad job r
+  first_bad r z f e = unfit_bad job r (fit_no_more (good job) r (λ i l. absurd (let n : ⊥ = omega arith in n)) (sym (good_first z) ∙ f) e)
 
   module _ (n : Net) (at : Reached job j p n) where
     good_next : joins n.size (taken xs) ≡ good job p
@@ -161,7 +161,7 @@ module _ (job j xs : List ℕ) (p q : ℕ) (same : j ≡ job) (value : Some xs �
           made = e
               ∙ ap₂ (λ (x y : ℕ). linked_up n x y) (byte_is 1 (omega arith) ∙ ap (λ (i : ℕ). byte job i 1) (sym u)) (byte_is 2 (omega arith) ∙ ap (λ (i : ℕ). byte job i 2) (sym u))
               ∙ ap (λ (x : Net). linked_up x (byte job (suc (p - 1)) 1) (byte job (suc (p - 1)) 2)) at.made
-              ∙ front-more job (p - 1) ∙ ap (front job) (sym o);
+              ∙ front_more job (p - 1) ∙ ap (front job) (sym o);
         }
 
     pub next_bad : (r : ℕ) → false ≡ joins n.size (taken xs) → r ≡ q - 1 → FirstBad job r
@@ -170,7 +170,7 @@ module _ (job j xs : List ℕ) (p q : ℕ) (same : j ≡ job) (value : Some xs �
 -- a job without a record, where the first record is to be N
 pub no_record : (fit : ℕ → Bool) (job j : List ℕ) (p q r : ℕ) → fit 0 ≡ opens (taken (record_at job 0)) → j ≡ job → p ≡ 0 → None ≡ handed j p → q ≡ cond (ltb p (records j)) (p + 1) p → r ≡ q - 1 → FirstUnfit fit (records job) r
 no_record fit job j p q r first same z value place e =
-    let none : records job ≤ p = handed-none job p (value ∙ ap (λ (b : List ℕ). handed b p) same) in
+    let none : records job ≤ p = handed_none job p (value ∙ ap (λ (b : List ℕ). handed b p) same) in
     let m : q ≡ p = place ∙ ap (λ (b : List ℕ). cond (ltb p (records b)) (p + 1) p) same ∙ ap (λ (b : Bool). cond b (p + 1) p) (le-ltb p (records job) none) in
     let o : r ≡ 0 = omega arith in
     record {
@@ -180,7 +180,7 @@ no_record fit job j p q r first same z value place e =
     }
   where
     few : length (record_at job 0) ≡ 8 → ⊥
-    few d = let none : records job ≤ p = handed-none job p (value ∙ ap (λ (b : List ℕ). handed b p) same) in
+    few d = let none : records job ≤ p = handed_none job p (value ∙ ap (λ (b : List ℕ). handed b p) same) in
         let l = length-take 8 (drop 0 job) in
         omega arith
 
@@ -191,11 +191,11 @@ no_record fit job j p q r first same z value place e =
 
 -- at the last record
 
-pub all-good : (job j : List ℕ) (p : ℕ) (n : Net) → Reached job j p n → None ≡ handed j p → AllGood job × (n ≡ described job)
-all-good job j p n at value =
+pub all_good : (job j : List ℕ) (p : ℕ) (n : Net) → Reached job j p n → None ≡ handed j p → AllGood job × (n ≡ described job)
+all_good job j p n at value =
     let a = at.past in
     let b = at.inside in
-    let c : records job ≤ p = handed-none job p (value ∙ ap (λ (x : List ℕ). handed x p) at.same) in
+    let c : records job ≤ p = handed_none job p (value ∙ ap (λ (x : List ℕ). handed x p) at.same) in
     let d : p ≡ records job = omega arith in
     (record { some = omega arith; each = λ i l. at.each i (omega arith) }, at.made ∙ ap (λ (k : ℕ). front job (k - 1)) d)
 
@@ -221,5 +221,5 @@ unfit_index fit job (Record k) r i q = let e : k ≡ i = cc in let l = length_ok
     few (inl h) = let e : k ≡ i = cc in let l = length_ok (length job) r.0 in omega arith
     few (inr h) = let e : k ≡ i = cc in let z = h.0 in omega arith
 
-pub refused-index : (job : List ℕ) (e : Refusal) → Refused job e → (i : ℕ) → (entry e).index ≡ Some i → i < 10000
-refused-index job e r i q = unfit_index (good job) job e (refused_unfit job e r) i q
+pub refused_index : (job : List ℕ) (e : Refusal) → Refused job e → (i : ℕ) → (entry e).index ≡ Some i → i < 10000
+refused_index job e r i q = unfit_index (good job) job e (refused_unfit job e r) i q

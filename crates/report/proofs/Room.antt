@@ -12,7 +12,7 @@ use Rattle.text.proofs.Clip.{and_then, none_yet}
 use Rattle.text.proofs.Lines.{one, three, spaced_short, line_end_short}
 use Rattle.schedule.specs.Rand.{Fine}
 use Rattle.schedule.specs.declared.checking.Verdict.TheVariants.{Accepted}
-use Rattle.schedule.proofs.Rand.{rand_is, rand-low}
+use Rattle.schedule.proofs.Rand.{rand_is, rand_low}
 use Rattle.report.specs.Overview.{rising, slot_of, frame, contending_pairs, row, rows, verdict_text, totals, overview}
 
 -- the nodes in rising order
@@ -21,23 +21,23 @@ module _ (n : ℕ) where
   pub rising-length : length (rising n) ≡ n
   rising-length = length-map-range_with_len (λ i. i) 0 n
 
-  pub rising-at : (i : ℕ) → i < n → get_or (rising n) i 0 ≡ i
-  rising-at i l = get_or-map-range_with_len (λ i. i) 0 n i i 0 l (omega arith)
+  pub rising_at : (i : ℕ) → i < n → get_or (rising n) i 0 ≡ i
+  rising_at i l = get_or-map-range_with_len (λ i. i) 0 n i i 0 l (omega arith)
 
-  pub rising-fine : Fine n (rising n)
-  rising-fine j l =
+  pub rising_fine : Fine n (rising n)
+  rising_fine j l =
       let e = rising-length in
-      let d = rising-at j (omega arith) in
-      (omega arith, λ (i, p, q). let c = rising-at i (omega arith) in let z : ⊥ = omega arith in z)
+      let d = rising_at j (omega arith) in
+      (omega arith, λ (i, p, q). let c = rising_at i (omega arith) in let z : ⊥ = omega arith in z)
 
 -- a node's slot in a plan by rising number is at most 64
 pub slot_le : (m : Map) (n : ℕ) → n < nodes m → slot_of m n ≤ 64
 slot_le m n l =
     let k = m.most in
     let e = rising-length (nodes m) in
-    let low = rand-low (contend m) (nodes m) (rising (nodes m)) (slot_of m) (rand_is (contend m) (nodes m) (rising (nodes m)) (rising-fine (nodes m))) n (omega arith) in
+    let low = rand_low (contend m) (nodes m) (rising (nodes m)) (slot_of m) (rand_is (contend m) (nodes m) (rising (nodes m)) (rising_fine (nodes m))) n (omega arith) in
     let few = count_le (λ j. contend m (get_or (rising (nodes m)) n 0) (get_or (rising (nodes m)) j 0)) n in
-    let at = ap (slot_of m) (rising-at (nodes m) n l) in
+    let at = ap (slot_of m) (rising_at (nodes m) n l) in
     omega arith
 
 pub accepted_short : (largest : ℕ) → largest < 10000 → length (verdict_text (Ok (Accepted largest))) ≤ 14

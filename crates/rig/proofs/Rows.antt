@@ -15,8 +15,8 @@ module _ {S : Type 0} (w : Ways S) (s : S) (p : ℕ → Bool) (f : ℕ → Messa
   unfolding each
   each_none = refl
 
-  pub each-sent : (t u : S) (n : ℕ) → p n ≡ true → t ≡ puts w s (each p f n) → u ≡ w.after_put t (f n) → u ≡ puts w s (each p f (n + 1))
-  each-sent t u n e h g = g ∙ ap (λ x. w.after_put x (f n)) h ∙ sym (ap (puts w s) (each_next p f n true e) ∙ puts_push w s (each p f n) (f n))
+  pub each_sent : (t u : S) (n : ℕ) → p n ≡ true → t ≡ puts w s (each p f n) → u ≡ w.after_put t (f n) → u ≡ puts w s (each p f (n + 1))
+  each_sent t u n e h g = g ∙ ap (λ x. w.after_put x (f n)) h ∙ sym (ap (puts w s) (each_next p f n true e) ∙ puts_push w s (each p f n) (f n))
 
   pub each_skipped : (t : S) (n : ℕ) → p n ≡ false → t ≡ puts w s (each p f n) → t ≡ puts w s (each p f (n + 1))
   each_skipped t n e h = h ∙ sym (ap (puts w s) (each_next p f n false e ∙ append-nil (each p f n)))
@@ -32,9 +32,9 @@ pub each_length_none : (p : ℕ → Bool) (f : ℕ → Message) → length (each
 unfolding each
 each_length_none p f = refl
 
-pub each-most : (p : ℕ → Bool) (f : ℕ → Message) (n : ℕ) → length (each p f n) ≤ n
-each-most p f zero = omega (arith, each_length_none p f)
-each-most p f (suc n) = go (p n) refl (each-most p f n)
+pub each_most : (p : ℕ → Bool) (f : ℕ → Message) (n : ℕ) → length (each p f n) ≤ n
+each_most p f zero = omega (arith, each_length_none p f)
+each_most p f (suc n) = go (p n) refl (each_most p f n)
   where
     up : length (each p f (suc n)) ≡ length (each p f (n + 1))
     up = ap (λ (k : ℕ). length (each p f k)) (sym (add-one n))

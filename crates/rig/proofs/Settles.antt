@@ -17,15 +17,15 @@ pub lowest_is : (s : Marks) (i : ℕ) → i < 64 → marked s i ≡ false → ((
 unfolding lowest
 lowest_is s i l e f = sym (first_is (marked s) 0 i 64 (λ t _ h. f t h) e (omega arith) (omega arith))
 
-first-all : (p : ℕ → Bool) (s k : ℕ) → ((t : ℕ) → t < s + k → p t ≡ true) → first_from p s k ≡ s + k
+first_all : (p : ℕ → Bool) (s k : ℕ) → ((t : ℕ) → t < s + k → p t ≡ true) → first_from p s k ≡ s + k
 unfolding first_from
-first-all p s zero h = omega arith
-first-all p s (suc k) h =
-    ap (λ (b : Bool). cond b (first_from p (suc s) k) s) (h s (omega arith)) ∙ first-all p (suc s) k (λ t l. h t (omega arith)) ∙ (let e : suc s + k ≡ s + suc k = omega arith in e)
+first_all p s zero h = omega arith
+first_all p s (suc k) h =
+    ap (λ (b : Bool). cond b (first_from p (suc s) k) s) (h s (omega arith)) ∙ first_all p (suc s) k (λ t l. h t (omega arith)) ∙ (let e : suc s + k ≡ s + suc k = omega arith in e)
 
 pub lowest-none : (s : Marks) → ((j : ℕ) → j < 64 → marked s j ≡ true) → lowest s ≡ 64
 unfolding lowest
-lowest-none s h = first-all (marked s) 0 64 (λ t l. h t (omega arith))
+lowest-none s h = first_all (marked s) 0 64 (λ t l. h t (omega arith))
 
 module _ {S : Type 0} (w : Ways S) (rig rig' : Rig) (s s' : S) (k : ℕ) where
   pub settle_some : (i turn : ℕ) → i < 64 → lowest (at rig.nodes k).taken ≡ i → turn ≡ decided_count (nodes rig.map) rig.nodes

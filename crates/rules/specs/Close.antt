@@ -14,15 +14,15 @@ module _ (m : Map) where
   Near : ℕ → ℕ → Type 0
   Near x y = (x ≡ y) ⊎ Linked m x y
 
-  near-decides : (x y : ℕ) → Decides (near m x y) (Near x y)
+  near_decides : (x y : ℕ) → Decides (near m x y) (Near x y)
   unfolding Near
-  near-decides x y = Decides-or (x == y) (linked m x y) (Decides-eqb x y) ((λ e. e), (λ e. e))
+  near_decides x y = Decides-or (x == y) (linked m x y) (Decides-eqb x y) ((λ e. e), (λ e. e))
 
-  close-decides : (p q : ℕ × ℕ) → Decides (close m p q) (Close m p q)
+  close_decides : (p q : ℕ × ℕ) → Decides (close m p q) (Close m p q)
   unfolding Near
-  close-decides p q =
+  close_decides p q =
       Decides-like (close m p q) to back
-      (Decides-or _ _ (Decides-or _ _ (near-decides p.0 q.0) (near-decides p.0 q.1)) (Decides-or _ _ (near-decides p.1 q.0) (near-decides p.1 q.1)))
+      (Decides-or _ _ (Decides-or _ _ (near_decides p.0 q.0) (near_decides p.0 q.1)) (Decides-or _ _ (near_decides p.1 q.0) (near_decides p.1 q.1)))
     where
       to : (Near p.0 q.0 ⊎ Near p.0 q.1) ⊎ (Near p.1 q.0 ⊎ Near p.1 q.1) → Close m p q
       to (inl (inl h)) = (p.0, q.0, inl refl, inl refl, h)
@@ -44,7 +44,7 @@ module _ (m : Map) where
     pub link_decides : (a b : ℕ) → Decides (link_clash m pairs a b) (LinkClash m pairs a b)
     link_decides a b =
         Decides-and _ _ (Decides-ltb a (length pairs)) (Decides-and _ _ (Decides-ltb b (length pairs))
-        (Decides-and _ _ (Decides-not (a == b) (Decides-eqb a b)) (close-decides (pair_at pairs a) (pair_at pairs b))))
+        (Decides-and _ _ (Decides-not (a == b) (Decides-eqb a b)) (close_decides (pair_at pairs a) (pair_at pairs b))))
 
     turned : (a b : ℕ) → LinkClash m pairs a b → LinkClash m pairs b a
     turned a b (p, (q, (d, (x, y, e, f, h)))) = (q, (p, ((λ z. d (sym z)), (y, x, f, e, other h))))

@@ -3,7 +3,7 @@ use Rattle.std.specs.Prelude.{ℕ, Bool}
 use Rattle.std.proofs.Common.{arith}
 use Rattle.schedule.specs.Laws.{Laws}
 use Rattle.map.specs.View.{nodes, contend}
-use Rattle.map.proofs.Contends.{contend_mutual, contend-apart}
+use Rattle.map.proofs.Contends.{contend_mutual, contend_apart}
 use Rattle.rules.specs.declared.node.NodeRule.{NodeRule}
 
 abbrev pub node_items : NodeRule → ℕ
@@ -15,7 +15,7 @@ node_clash r a b = contend r.map.now a b
 pub node_laws : Laws node_items node_clash 64
 node_laws = record {
   swap = λ r a b. contend_mutual r.map.now a b;
-  apart = λ r a. contend-apart r.map.now a;
+  apart = λ r a. contend_apart r.map.now a;
   few = λ r. r.map.now.most;
   cap = omega arith;
 }

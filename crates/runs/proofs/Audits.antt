@@ -8,7 +8,7 @@ use Rattle.schedule.specs.Order.{entries}
 use Rattle.schedule.specs.Sharing.{Checked}
 use Rattle.schedule.specs.declared.checking.Verdict.{Verdict}
 use Rattle.schedule.specs.declared.checking.Verdict.TheVariants.{Accepted}
-use Rattle.schedule.proofs.Accept.{checked-only}
+use Rattle.schedule.proofs.Accept.{checked_only}
 use Rattle.radio.specs.Ways.{Ways, AirRule}
 use Rattle.rig.specs.declared.Rig.{Rig}
 use Rattle.rig.specs.Calm.{at}
@@ -26,7 +26,7 @@ audit_is w rule rig s m table verdict e t c = record {
   checked = (table, tells, here);
   accepted = λ calls answers order run.
       let law = (every_run w rule rig.map rig.nodes s calls answers order run).0 in
-      checked-only (contend rig.map) (nodes rig.map) table (frame rig.map rig.nodes) (law.accepted table tells) verdict here
+      checked_only (contend rig.map) (nodes rig.map) table (frame rig.map rig.nodes) (law.accepted table tells) verdict here
       ∙ ap (λ (x : ℕ). Ok (Accepted x)) (max_like (entries table) (λ k. (at rig.nodes k).slot) (nodes rig.map) tells.each);
 }
   where

@@ -8,7 +8,7 @@ use Rattle.rig.specs.Board.{Board}
 use Rattle.rig.specs.Calm.{at}
 use Rattle.rig.specs.Laws.{Decides}
 use Rattle.law.specs.Runs.{decides, deciders}
-use Rattle.law.proofs.Ranks.{each_none, each-one}
+use Rattle.law.proofs.Ranks.{each_none, each_one}
 use Rattle.runs.specs.Decider.{Decider}
 
 -- the test says what the relation says
@@ -21,5 +21,5 @@ decides_is b b' k t =
 pub deciders_are : (m : Map) (b b' : Board) (r : Option ℕ) → ((j k : ℕ) → Decides b b' j → Decides b b' k → j ≡ k) → Decider (nodes m) b b' r → deciders m b b' ≡ option_to_list r
 deciders_are m b b' None single h = each_none (decides b b') (λ k. k) (nodes m) h
 deciders_are m b b' (Some k) single (l, t) =
-    each-one (decides b b') (λ i. i) (nodes m) k l t
+    each_one (decides b b') (λ i. i) (nodes m) k l t
     (λ i d. ⊎_elim (λ u. absurd (d (single i k (decides_is b b' i u) (decides_is b b' k t)))) (λ f. f) (cases_Bool (decides b b' i)))

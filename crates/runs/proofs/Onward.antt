@@ -56,12 +56,12 @@ module _ {S : Type 0} (w : Ways S) (m : Map) (s₀ : S) where
   pub performed : AirRule w → (calls : List Call) (i decided : ℕ) (rig : Rig) (answers answers' : List Answer) (order order' : List ℕ) (s : S) → i ≡ length calls → decided ≤ i
       → drop i answers' ≡ drop i answers → drop decided order' ≡ drop decided order → Reached calls i rig.map (take i answers') (take decided order') rig.nodes s
       → Made w m calls s₀ s answers answers' order order' (record { rig = rig; decided = decided })
-  performed rule calls i decided rig answers answers' order order' s e few rest rest-order r = record {
+  performed rule calls i decided rig answers answers' order order' s e few rest rest_order r = record {
     map = r.map;
     made = made;
     few = (let z = e in omega arith);
     rest = ap (λ (k : ℕ). drop k answers') (sym e) ∙ rest ∙ ap (λ (k : ℕ). drop k answers) e;
-    rest-order = rest-order;
+    rest_order = rest_order;
     run = run;
     law = λ air. (every_run w rule m rig.nodes s calls _ _ (run air)).0;
     unseen = λ air. (every_run w rule m rig.nodes s calls _ _ (run air)).1;

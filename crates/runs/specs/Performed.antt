@@ -23,16 +23,16 @@ pub record Made {S : Type 0} (w : Ways S) (m : Map) (calls : List Call) (s s' : 
   pub made : Calls w m new_board s calls (take (length calls) answers') (take p.decided order') p.rig.nodes s'
   pub few : p.decided ≤ length calls
   pub rest : drop (length calls) answers' ≡ drop (length calls) answers
-  pub rest-order : drop p.decided order' ≡ drop p.decided order
+  pub rest_order : drop p.decided order' ≡ drop p.decided order
   pub run : w.air s ≡ [] → Run w m calls (take (length calls) answers') (take p.decided order') p.rig.nodes s'
   pub law : w.air s ≡ [] → SlotLaw m (take p.decided order') p.rig.nodes
   pub unseen : w.air s ≡ [] → Unseen w m p.rig.nodes s'
 
 -- nothing was called, and all is as it was
 pub record Untouched {S : Type 0} (s s' : S) (answers answers' : List Answer) (order order' : List ℕ) : Type 0 where
-  pub same-radio : s' ≡ s
-  pub same-answers : answers' ≡ answers
-  pub same-order : order' ≡ order
+  pub same_radio : s' ≡ s
+  pub same_answers : answers' ≡ answers
+  pub same_order : order' ≡ order
 
 -- what performing calls answers: 1, `Short`, exactly where a table is shorter than the calls
 abbrev pub Performs : {S : Type 0} → Ways S → Map → List Call → S → S → List Answer → List Answer → List ℕ → List ℕ → Result Performed Refusal → Type 0

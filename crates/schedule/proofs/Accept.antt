@@ -2,7 +2,7 @@
 use Rattle.std.proofs.Common.{◌≡◌, ℕ, zero, suc, ◌<◌, ◌≤◌, Bool, false, ◌⊎◌, List, length, get_or, Ok, Err, Result, sym, ap, ◌∙◌, subst, inl, inr, arith}
 use Rattle.std.proofs.lemmas.Bool.{both_ways, cases_order, cases_lt}
 use Rattle.marks.specs.Below.{max_below}
-use Rattle.marks.proofs.Below.{max-above, max_le}
+use Rattle.marks.proofs.Below.{max_above, max_le}
 use Rattle.refusal.specs.Entry.{entry}
 use Rattle.refusal.specs.declared.Refusal.{Refusal}
 use Rattle.refusal.proofs.Why.{Why-cases}
@@ -11,7 +11,7 @@ use Rattle.schedule.specs.declared.checking.Verdict.TheVariants.{Accepted, Clash
 use Rattle.schedule.specs.Rand.{IsRand}
 use Rattle.schedule.specs.Order.{entries}
 use Rattle.schedule.specs.Sharing.{Shares, Alone, Clear, Largest, Checked}
-use Rattle.schedule.proofs.Rand.{rand-clean}
+use Rattle.schedule.proofs.Rand.{rand_clean}
 
 pub clear_alone : (clash : ℕ → ℕ → Bool) (n : ℕ) → ((a b : ℕ) → clash a b ≡ clash b a) → ((a : ℕ) → clash a a ≡ false)
     → (slots : List ℕ) (m : ℕ) → m ≡ n → ((x : ℕ) → x < n → Alone clash slots x m) → Clear clash n slots
@@ -56,11 +56,11 @@ some_largest (suc n) slots = let (v, l) = some_largest n slots in go v l (cases_
         there (inr (k, p, e)) = inr (k, omega arith, e)
 
 -- RAND's slots are accepted
-pub rand-accepted : (clash : ℕ → ℕ → Bool) (n : ℕ) → ((a b : ℕ) → clash a b ≡ clash b a) → ((a : ℕ) → clash a a ≡ false)
+pub rand_accepted : (clash : ℕ → ℕ → Bool) (n : ℕ) → ((a b : ℕ) → clash a b ≡ clash b a) → ((a : ℕ) → clash a a ≡ false)
     → (order slots : List ℕ) → n ≤ length slots → IsRand clash n order (entries slots) → (m : ℕ) × Checked clash n slots (Ok (Accepted m))
-rand-accepted clash n swap apart order slots long is =
+rand_accepted clash n swap apart order slots long is =
     let (m, l) = some_largest n slots in
-    (m, (long, ((λ x y lx ly s. rand-clean clash n order (entries slots) is swap apart x y lx ly s.clashing s.placed (sym s.same)), l)))
+    (m, (long, ((λ x y lx ly s. rand_clean clash n order (entries slots) is swap apart x y lx ly s.clashing s.placed (sym s.same)), l)))
 
 -- the largest slot is the maximum
 pub largest_is : (n : ℕ) (slots : List ℕ) (v : ℕ) → Largest n slots v → v ≡ max_below (entries slots) n
@@ -68,13 +68,13 @@ largest_is n slots v l = let a = max_le (entries slots) n v l.above in let b = g
   where
     go : (v ≡ 0) ⊎ ((k : ℕ) × (k < n) × (get_or slots k 0 ≡ v)) → v ≤ max_below (entries slots) n
     go (inl e) = omega arith
-    go (inr (k, h, e)) = let m = max-above (entries slots) n k h in omega arith
+    go (inr (k, h, e)) = let m = max_above (entries slots) n k h in omega arith
 
 -- a table that is accepted has no other answer
-pub checked-only : (clash : ℕ → ℕ → Bool) (n : ℕ) (slots : List ℕ) (m : ℕ) → Checked clash n slots (Ok (Accepted m))
+pub checked_only : (clash : ℕ → ℕ → Bool) (n : ℕ) (slots : List ℕ) (m : ℕ) → Checked clash n slots (Ok (Accepted m))
     → (r : Result Verdict Refusal) → Checked clash n slots r → r ≡ Ok (Accepted (max_below (entries slots) n))
-checked-only clash n slots m a (Ok (Accepted v)) (h, (c, l)) = ap (λ (x : ℕ). Ok (Accepted x)) (largest_is n slots v l)
-checked-only clash n slots m a (Ok (Clash pair)) (h, p) =
+checked_only clash n slots m a (Ok (Accepted v)) (h, (c, l)) = ap (λ (x : ℕ). Ok (Accepted x)) (largest_is n slots v l)
+checked_only clash n slots m a (Ok (Clash pair)) (h, p) =
     absurd (let i = p.after in let j = p.inside in a.1.0 pair.0 pair.1 (omega arith) p.inside p.shares)
-checked-only clash n slots m a (Err e) h =
+checked_only clash n slots m a (Err e) h =
     absurd (let l = a.0 in elim (Why-cases (entry e).number 1 (length slots < n) ⊥ h) [ inl q ↦ omega arith | inr q ↦ q ])

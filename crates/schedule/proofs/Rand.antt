@@ -4,7 +4,7 @@ use Rattle.std.proofs.lemmas.List.{take_more, take_all}
 use Rattle.std.proofs.lemmas.Bool.{both_ways, eq-eqb, ne_eqb, eqb-true, cases_eq, cases_order, and_parts, and_from, cond-true, cond-false}
 use Rattle.marks.specs.Below.{some_below}
 use Rattle.schedule.specs.Rand.{holds, least, put, from, rand, Fine, Named, Held, Smallest, IsRand, RandLaw, ahead}
-use Rattle.schedule.proofs.Slots.{some_find, some_at, crowd, least-free, least-below, least-slot}
+use Rattle.schedule.proofs.Slots.{some_find, some_at, crowd, least_free, least_below, least_slot}
 
 -- places in an order
 
@@ -47,9 +47,9 @@ module _ (clash : ℕ → ℕ → Bool) (n : ℕ) where
   pub rand_push_other : (order : List ℕ) (a k : ℕ) → (k ≡ a → ⊥) → rand clash n (order ++ (a ∷ [])) k ≡ rand clash n order k
   rand_push_other order a k d = rand_push order a k ∙ cond-false (eqb k a) (least clash n (rand clash n order) a) (rand clash n order k) (ne_eqb k a d)
 
-  pub rand-none : (k : ℕ) → rand clash n [] k ≡ 0
+  pub rand_none : (k : ℕ) → rand clash n [] k ≡ 0
   unfolding from
-  rand-none k = refl
+  rand_none k = refl
 
 -- the steps have the relation
 
@@ -77,7 +77,7 @@ module _ (clash : ℕ → ℕ → Bool) (n : ℕ) (order : List ℕ) (fine : Fin
   placed zero l k h = absurd (let e : upto 0 k ≡ 0 = start in let z : ⊥ = omega arith in z)
     where
       start : upto 0 k ≡ 0
-      start = rand-none clash n k
+      start = rand_none clash n k
   placed (suc i) l k h = go (cases_eq k (get_or order i 0)) (λ p. placed i (omega arith) k p)
     where
       go : (k ≡ get_or order i 0) ⊎ (k ≡ get_or order i 0 → ⊥) → (0 < upto i k → (j : ℕ) × (j < i) × (get_or order j 0 ≡ k)) → (j : ℕ) × (j < suc i) × (get_or order j 0 ≡ k)
@@ -86,7 +86,7 @@ module _ (clash : ℕ → ℕ → Bool) (n : ℕ) (order : List ℕ) (fine : Fin
 
   -- the slot given at place i is the smallest that no clashing item at an earlier place has
   given : (i : ℕ) → i < length order → Smallest (Held clash order (upto i) i) (least clash n (upto i) (get_or order i 0))
-  given i l = record { slot = least-slot clash n f a; free = free; below = below }
+  given i l = record { slot = least_slot clash n f a; free = free; below = below }
     where
       f : ℕ → ℕ
       f = upto i
@@ -97,13 +97,13 @@ module _ (clash : ℕ → ℕ → Bool) (n : ℕ) (order : List ℕ) (fine : Fin
       free : Held clash order (upto i) i (least clash n (upto i) (get_or order i 0)) → ⊥
       free (j, p, c, e) =
           let q : get_or order j 0 < n = (fine j (omega arith)).0 in
-          both_ways (holds clash n (upto i) (get_or order i 0) (least clash n (upto i) (get_or order i 0))) (least-free clash n (upto i) (get_or order i 0))
+          both_ways (holds clash n (upto i) (get_or order i 0) (least clash n (upto i) (get_or order i 0))) (least_free clash n (upto i) (get_or order i 0))
           (some_at (λ b. clash (get_or order i 0) b && eqb (upto i b) (least clash n (upto i) (get_or order i 0))) n (get_or order j 0) q
           (and_from _ _ c (eq-eqb (upto i (get_or order j 0)) (least clash n (upto i) (get_or order i 0)) e)))
 
       below : (t : ℕ) → 1 ≤ t → t < least clash n (upto i) (get_or order i 0) → Held clash order (upto i) i t
       below t p q =
-          let (b, lb, h) = some_find (λ b. clash (get_or order i 0) b && eqb (upto i b) t) n (least-below clash n (upto i) (get_or order i 0) t p q) in
+          let (b, lb, h) = some_find (λ b. clash (get_or order i 0) b && eqb (upto i b) t) n (least_below clash n (upto i) (get_or order i 0) t p q) in
           let (c, e) = and_parts (clash (get_or order i 0) b) (eqb (upto i b) t) h in
           let s : upto i b ≡ t = eqb-true (upto i b) t e in
           let (j, lj, d) = placed i (omega arith) b (omega arith) in
@@ -181,9 +181,9 @@ smallest_is P Q s t to back p q = go (cases_order s t)
     go (inr (inr l)) = absurd (q.free (to t (p.below t q.slot l)))
 
 module _ (clash : ℕ → ℕ → Bool) (n : ℕ) (order : List ℕ) (f g : ℕ → ℕ) (p : IsRand clash n order f) (q : IsRand clash n order g) where
-  same-to : (i : ℕ) → i ≤ length order → (j : ℕ) → j < i → f (get_or order j 0) ≡ g (get_or order j 0)
-  same-to zero l j h = absurd (let z : ⊥ = omega arith in z)
-  same-to (suc i) l j h = go (cases_eq j i) (λ k r. same-to i (omega arith) k r)
+  same_to : (i : ℕ) → i ≤ length order → (j : ℕ) → j < i → f (get_or order j 0) ≡ g (get_or order j 0)
+  same_to zero l j h = absurd (let z : ⊥ = omega arith in z)
+  same_to (suc i) l j h = go (cases_eq j i) (λ k r. same_to i (omega arith) k r)
     where
       at : ((k : ℕ) → k < i → f (get_or order k 0) ≡ g (get_or order k 0)) → f (get_or order i 0) ≡ g (get_or order i 0)
       at ih =
@@ -195,11 +195,11 @@ module _ (clash : ℕ → ℕ → Bool) (n : ℕ) (order : List ℕ) (f g : ℕ 
       go (inl e) ih = ap (λ (x : ℕ). f (get_or order x 0)) e ∙ at ih ∙ ap (λ (x : ℕ). g (get_or order x 0)) (sym e)
       go (inr d) ih = ih j (omega arith)
 
-  pub one-rand : (k : ℕ) → k < n → f k ≡ g k
-  one-rand k l = go (find_place order k)
+  pub one_rand : (k : ℕ) → k < n → f k ≡ g k
+  one_rand k l = go (find_place order k)
     where
       go : Named order k ⊎ (Named order k → ⊥) → f k ≡ g k
-      go (inl (j, h, e)) = ap f (sym e) ∙ same-to (length order) (omega arith) j h ∙ ap g e
+      go (inl (j, h, e)) = ap f (sym e) ∙ same_to (length order) (omega arith) j h ∙ ap g e
       go (inr off) = p.outside k l off ∙ sym (q.outside k l off)
 
 -- what follows of any slots that have the relation
@@ -210,8 +210,8 @@ module _ (clash : ℕ → ℕ → Bool) (n : ℕ) (order : List ℕ) (f : ℕ �
   slot_named i l = (p.inside i l).slot
 
   -- no two clashing items share a slot
-  pub rand-clean : ((a b : ℕ) → clash a b ≡ clash b a) → ((a : ℕ) → clash a a ≡ false) → (x y : ℕ) → x < n → y < n → clash x y ≡ true → 0 < f x → f x ≡ f y → ⊥
-  rand-clean swap apart x y lx ly c h e = go (find_place order x) (find_place order y)
+  pub rand_clean : ((a b : ℕ) → clash a b ≡ clash b a) → ((a : ℕ) → clash a a ≡ false) → (x y : ℕ) → x < n → y < n → clash x y ≡ true → 0 < f x → f x ≡ f y → ⊥
+  rand_clean swap apart x y lx ly c h e = go (find_place order x) (find_place order y)
     where
       meet : (i j : ℕ) → i < length order → j < length order → get_or order i 0 ≡ x → get_or order j 0 ≡ y → (i ≡ j) ⊎ ((i < j) ⊎ (j < i)) → ⊥
       meet i j li lj dx dy (inl d) =
@@ -228,8 +228,8 @@ module _ (clash : ℕ → ℕ → Bool) (n : ℕ) (order : List ℕ) (f : ℕ �
       go (inr off) _ = let z = p.outside x lx off in omega arith
 
   -- an item's slot is at most one more than the clashing items before it
-  pub rand-low : (i : ℕ) → i < length order → f (get_or order i 0) ≤ 1 + ahead clash order i
-  rand-low i l = go (f (get_or order i 0)) refl
+  pub rand_low : (i : ℕ) → i < length order → f (get_or order i 0) ≤ 1 + ahead clash order i
+  rand_low i l = go (f (get_or order i 0)) refl
     where
       held : (t : ℕ) → 1 ≤ t → t < f (get_or order i 0) → some_below (λ j. clash (get_or order i 0) (get_or order j 0) && eqb (f (get_or order j 0)) t) i ≡ true
       held t a b =
@@ -242,13 +242,13 @@ module _ (clash : ℕ → ℕ → Bool) (n : ℕ) (order : List ℕ) (f : ℕ �
           let c = crowd (λ j. clash (get_or order i 0) (get_or order j 0)) (λ j. f (get_or order j 0)) i s (λ t a b. held t a (omega arith)) in
           omega arith
 
-pub rand-law : (clash : ℕ → ℕ → Bool) (n : ℕ) → ((a b : ℕ) → clash a b ≡ clash b a) → ((a : ℕ) → clash a a ≡ false) → RandLaw clash n
-rand-law clash n swap apart = record {
+pub rand_law : (clash : ℕ → ℕ → Bool) (n : ℕ) → ((a b : ℕ) → clash a b ≡ clash b a) → ((a : ℕ) → clash a a ≡ false) → RandLaw clash n
+rand_law clash n swap apart = record {
   agrees = λ order fine. rand_is clash n order fine;
-  only = λ order f fine p. one-rand clash n order f (rand clash n order) p (rand_is clash n order fine);
+  only = λ order f fine p. one_rand clash n order f (rand clash n order) p (rand_is clash n order fine);
   clean = λ order fine i j l m c e.
       let p = rand_is clash n order fine in
-      rand-clean clash n order (rand clash n order) p swap apart (get_or order i 0) (get_or order j 0) (fine i l).0 (fine j m).0 c (slot_named clash n order (rand clash n order) p i l) e;
-  low = λ order fine i l. rand-low clash n order (rand clash n order) (rand_is clash n order fine) i l;
+      rand_clean clash n order (rand clash n order) p swap apart (get_or order i 0) (get_or order j 0) (fine i l).0 (fine j m).0 c (slot_named clash n order (rand clash n order) p i l) e;
+  low = λ order fine i l. rand_low clash n order (rand clash n order) (rand_is clash n order fine) i l;
   appended = rand_push_other clash n;
 }

@@ -2,7 +2,7 @@
 use Rattle.std.proofs.Common.{◌≡◌, ℕ, zero, suc, ◌+◌, ◌<◌, ◌≤◌, Bool, true, false, cond, ◌&&◌, ◌||◌, eqb, ◌⊎◌, sym, refl, ap, ◌∙◌, ap₂, inl, inr, ⊎_elim, arith}
 use Rattle.std.proofs.lemmas.Bool.{ne_eqb, cases_eq, cases_Bool}
 use Rattle.marks.specs.Below.{some_below, sum_below, count_below}
-use Rattle.marks.proofs.Below.{some-decides, count_le}
+use Rattle.marks.proofs.Below.{some_decides, count_le}
 use Rattle.schedule.specs.Rand.{first_from, holds, least}
 
 -- some number below a bound
@@ -11,15 +11,15 @@ same : (b : Bool) → (b ≡ true → b ≡ true) × (b ≡ true → b ≡ true)
 same b = ((λ e. e), (λ e. e))
 
 pub some_find : (p : ℕ → Bool) (n : ℕ) → some_below p n ≡ true → (k : ℕ) × (k < n) × (p k ≡ true)
-some_find p n = (some-decides p (λ k. p k ≡ true) (λ k. same (p k)) n).0
+some_find p n = (some_decides p (λ k. p k ≡ true) (λ k. same (p k)) n).0
 
 pub some_at : (p : ℕ → Bool) (n k : ℕ) → k < n → p k ≡ true → some_below p n ≡ true
-some_at p n k l t = (some-decides p (λ k. p k ≡ true) (λ k. same (p k)) n).1 (k, l, t)
+some_at p n k l t = (some_decides p (λ k. p k ≡ true) (λ k. same (p k)) n).1 (k, l, t)
 
-pub some-none : (p : ℕ → Bool) (n : ℕ) → ((k : ℕ) → k < n → p k ≡ false) → some_below p n ≡ false
+pub some_none : (p : ℕ → Bool) (n : ℕ) → ((k : ℕ) → k < n → p k ≡ false) → some_below p n ≡ false
 unfolding some_below
-some-none p zero f = refl
-some-none p (suc n) f = ap₂ (λ (x y : Bool). x || y) (f n (omega arith)) (some-none p n (λ k l. f k (omega arith)))
+some_none p zero f = refl
+some_none p (suc n) f = ap₂ (λ (x y : Bool). x || y) (f n (omega arith)) (some_none p n (λ k l. f k (omega arith)))
 
 pub some_like : (p q : ℕ → Bool) (n : ℕ) → ((k : ℕ) → k < n → p k ≡ q k) → some_below p n ≡ some_below q n
 unfolding some_below
@@ -139,17 +139,17 @@ module _ (clash : ℕ → ℕ → Bool) (n : ℕ) where
   crowded : (f : ℕ → ℕ) (a m : ℕ) → ((t : ℕ) → 1 ≤ t → t ≤ m → holds clash n f a t ≡ true) → m ≤ n
   crowded f a m h = let c = crowd (clash a) f n m h in let k = count_le (clash a) n in omega arith
 
-  pub least-free : (f : ℕ → ℕ) (a : ℕ) → holds clash n f a (least clash n f a) ≡ false
+  pub least_free : (f : ℕ → ℕ) (a : ℕ) → holds clash n f a (least clash n f a) ≡ false
   unfolding least
-  least-free f a = first_fails (holds clash n f a) 1 n (λ all. let l = crowded f a (n + 1) (λ t p q. all t p (omega arith)) in omega arith)
+  least_free f a = first_fails (holds clash n f a) 1 n (λ all. let l = crowded f a (n + 1) (λ t p q. all t p (omega arith)) in omega arith)
 
-  pub least-below : (f : ℕ → ℕ) (a t : ℕ) → 1 ≤ t → t < least clash n f a → holds clash n f a t ≡ true
+  pub least_below : (f : ℕ → ℕ) (a t : ℕ) → 1 ≤ t → t < least clash n f a → holds clash n f a t ≡ true
   unfolding least
-  least-below f a t l h = first_below (holds clash n f a) 1 n t l h
+  least_below f a t l h = first_below (holds clash n f a) 1 n t l h
 
-  pub least-slot : (f : ℕ → ℕ) (a : ℕ) → 1 ≤ least clash n f a
+  pub least_slot : (f : ℕ → ℕ) (a : ℕ) → 1 ≤ least clash n f a
   unfolding least
-  least-slot f a = first-from (holds clash n f a) 1 n
+  least_slot f a = first-from (holds clash n f a) 1 n
 
   -- a slot that is free, and below which all are held, is it
   pub least_is : (f : ℕ → ℕ) (a r : ℕ) → 1 ≤ r → holds clash n f a r ≡ false → ((t : ℕ) → 1 ≤ t → t < r → holds clash n f a t ≡ true) → r ≡ least clash n f a
@@ -160,9 +160,9 @@ module _ (clash : ℕ → ℕ → Bool) (n : ℕ) where
       first_is (holds clash n f a) 1 (suc r) n h e l (omega arith)
 
   -- as many slots as there are items, all held: the next one is it
-  pub least-last : (f : ℕ → ℕ) (a m : ℕ) → n ≤ m → ((t : ℕ) → 1 ≤ t → t ≤ m → holds clash n f a t ≡ true) → m + 1 ≡ least clash n f a
+  pub least_last : (f : ℕ → ℕ) (a m : ℕ) → n ≤ m → ((t : ℕ) → 1 ≤ t → t ≤ m → holds clash n f a t ≡ true) → m + 1 ≡ least clash n f a
   unfolding least
-  least-last f a m l h =
+  least_last f a m l h =
       let c = crowded f a m h in
       go (cases_Bool (holds clash n f a (m + 1)))
     where

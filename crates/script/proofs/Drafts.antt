@@ -10,7 +10,7 @@ use Rattle.records.specs.declared.fields.Record.{Record as Fields}
 use Rattle.records.specs.Fields.{records, record_at, handed, number_of, taken}
 use Rattle.records.specs.Build.{opens, joins, byte, count_in, names}
 use Rattle.records.specs.Fits.{FirstUnfit}
-use Rattle.records.proofs.Fronts.{handed-none, was, moved, byte_is, fit_on, fit_no_more}
+use Rattle.records.proofs.Fronts.{handed_none, was, moved, byte_is, fit_on, fit_no_more}
 use Rattle.script.specs.declared.reading.Draft.{Draft}
 use Rattle.script.specs.declared.reading.Stage.TheVariants.{Second}
 use Rattle.script.specs.Script.{event_of, seeds, event_at, links_at, seeds_at, event_before, good}
@@ -57,23 +57,23 @@ module _ (job : List ℕ) where
   good_later (suc p) l =
       ap (λ (k : ℕ). asks (eqb (suc p) 1) (count_in job) (not (event_before job k)) (taken (record_at job (suc p)))) (let e : p ≡ suc p - 1 = omega arith in e)
 
-  front-none : bare (count_in job) ≡ front job 0
+  front_none : bare (count_in job) ≡ front job 0
   unfolding some_below
-  front-none = refl
+  front_none = refl
 
-  front-more : (k : ℕ) (b : Bool) → links_at job (suc k) ≡ b → cond b (linked_up (front job k) (byte job (suc k) 1) (byte job (suc k) 2)) (front job k) ≡ front job (suc k)
+  front_more : (k : ℕ) (b : Bool) → links_at job (suc k) ≡ b → cond b (linked_up (front job k) (byte job (suc k) 1) (byte job (suc k) 2)) (front job k) ≡ front job (suc k)
   unfolding some_below
-  front-more k true e =
+  front_more k true e =
       ap (λ (f : ℕ → ℕ → Bool). record { size = count_in job; links = f })
       (fun_ext (λ x. fun_ext (λ y. or_swap ((front job k).links x y) (names job (suc k) x y) ∙ ap (λ (b : Bool). (b && names job (suc k) x y) || (front job k).links x y) (sym e))))
-  front-more k false e =
+  front_more k false e =
       ap (λ (f : ℕ → ℕ → Bool). record { size = count_in job; links = f })
       (fun_ext (λ x. fun_ext (λ y. ap (λ (b : Bool). (b && names job (suc k) x y) || (front job k).links x y) (sym e))))
 
-  seed-more : (p : ℕ) → 1 ≤ p → cond (eqb p 1 && seeds (taken (record_at job p))) (Some (number_of (record_at job p))) (seed_to job p) ≡ seed_to job (p + 1)
-  seed-more zero l = absurd (let f : ⊥ = omega arith in f)
-  seed-more (suc zero) l = refl
-  seed-more (suc (suc k)) l =
+  seed_more : (p : ℕ) → 1 ≤ p → cond (eqb p 1 && seeds (taken (record_at job p))) (Some (number_of (record_at job p))) (seed_to job p) ≡ seed_to job (p + 1)
+  seed_more zero l = absurd (let f : ⊥ = omega arith in f)
+  seed_more (suc zero) l = refl
+  seed_more (suc (suc k)) l =
       let p = suc (suc k) in
       let n : eqb p 1 ≡ false = ne_eqb p 1 (λ e. omega arith) in
       let a : ltb 1 p ≡ true = lt-ltb 1 p (omega arith) in
@@ -81,13 +81,13 @@ module _ (job : List ℕ) where
       ap (λ (x : Bool). cond (x && seeds (taken (record_at job p))) (Some (number_of (record_at job p))) (seed_to job p)) n
       ∙ ap (λ (x : Bool). cond (x && seeds_at job 1) (Some (number_of (record_at job 1))) None) (a ∙ sym b)
 
-  linking-none : true ≡ not (event_before job 0)
+  linking_none : true ≡ not (event_before job 0)
   unfolding some_below
-  linking-none = refl
+  linking_none = refl
 
-  linking-more : (k : ℕ) → (not (event_before job k) && not (is_some (event_at job (suc k)))) ≡ not (event_before job (suc k))
+  linking_more : (k : ℕ) → (not (event_before job k) && not (is_some (event_at job (suc k)))) ≡ not (event_before job (suc k))
   unfolding some_below
-  linking-more k = not_or (event_before job k) (is_some (event_at job (suc k)))
+  linking_more k = not_or (event_before job k) (is_some (event_at job (suc k)))
 
 -- a reader over the bytes j of the job, at the place p, which then stood at q, handed out xs
 module _ (job j xs : List ℕ) (p q : ℕ) (same : j ≡ job) (value : Some xs ≡ handed j p) (place : q ≡ cond (ltb p (records j)) (p + 1) p) where
@@ -117,14 +117,14 @@ module _ (job j xs : List ℕ) (p q : ℕ) (same : j ≡ job) (value : Some xs �
         past = omega arith;
         inside = omega arith;
         each = fit_on job j xs p q same value place (good job) (λ i l. absurd (let n : ⊥ = omega arith in n)) (sym (opens-good z) ∙ t);
-        made = e ∙ ap bare (byte_here 1 (omega arith) ∙ ap (λ (i : ℕ). byte job i 1) z) ∙ front-none job ∙ ap (front job) (sym u);
+        made = e ∙ ap bare (byte_here 1 (omega arith) ∙ ap (λ (i : ℕ). byte job i 1) z) ∙ front_none job ∙ ap (front job) (sym u);
         seed = ap (seed_to job) (sym o);
         seeding = ap (λ (i : ℕ). eqb i 1) (sym o);
-        linking = linking-none job ∙ ap (λ (i : ℕ). not (event_before job i)) (sym u);
+        linking = linking_none job ∙ ap (λ (i : ℕ). not (event_before job i)) (sym u);
       }
 
-  pub first-bad : (r : ℕ) → p ≡ 0 → opens (taken xs) ≡ false → r ≡ q - 1 → FirstUnfit (good job) (records job) r
-  first-bad r z f e =
+  pub first_bad : (r : ℕ) → p ≡ 0 → opens (taken xs) ≡ false → r ≡ q - 1 → FirstUnfit (good job) (records job) r
+  first_bad r z f e =
       fit_no_more job j xs p q same value place (good job) r (λ i l. absurd (let n : ⊥ = omega arith in n)) (sym (opens-good z) ∙ f) e
 
   module _ (d : Draft) (at : Reached job j p d) where
@@ -159,24 +159,24 @@ module _ (job j xs : List ℕ) (p q : ℕ) (same : j ≡ job) (value : Some xs �
               ∙ ap₂ (λ (x : Net) (b : Bool). cond b (linked_up x (get_or xs 1 0) (get_or xs 2 0)) x) at.made (links_is ∙ ap (links_at job) u)
               ∙ ap₂ (λ (x y : ℕ). cond (links_at job (suc (p - 1))) (linked_up (front job (p - 1)) x y) (front job (p - 1)))
               (byte_here 1 (omega arith) ∙ ap (λ (i : ℕ). byte job i 1) u) (byte_here 2 (omega arith) ∙ ap (λ (i : ℕ). byte job i 2) u)
-              ∙ front-more job (p - 1) (links_at job (suc (p - 1))) refl ∙ ap (front job) (sym o);
+              ∙ front_more job (p - 1) (links_at job (suc (p - 1))) refl ∙ ap (front job) (sym o);
           seed = f.seed
               ∙ ap₂ (λ (b : Bool) (x : Option ℕ). cond (b && seeds (taken xs)) (Some (number_of xs)) x) at.seeding at.seed
               ∙ ap (λ (y : List ℕ). cond (eqb p 1 && seeds (taken y)) (Some (number_of y)) (seed_to job p)) here.1
-              ∙ seed-more job p at.past ∙ ap (seed_to job) (sym step);
+              ∙ seed_more job p at.past ∙ ap (seed_to job) (sym step);
           seeding = f.seeded ∙ sym (ne_eqb q 1 (λ e. omega arith));
           linking = f.linking
               ∙ ap₂ (λ (b : Bool) (y : List ℕ). b && not (is_some (event_of (taken y)))) at.linking (here.1 ∙ ap (record_at job) u)
-              ∙ linking-more job (p - 1) ∙ ap (λ (i : ℕ). not (event_before job i)) (sym o);
+              ∙ linking_more job (p - 1) ∙ ap (λ (i : ℕ). not (event_before job i)) (sym o);
         }
 
 -- at the last record
 
-pub all-good : (job j : List ℕ) (p : ℕ) (d : Draft) → Reached job j p d → None ≡ handed j p → SetUp job d.script
-all-good job j p d at value =
+pub all_good : (job j : List ℕ) (p : ℕ) (d : Draft) → Reached job j p d → None ≡ handed j p → SetUp job d.script
+all_good job j p d at value =
     let a = at.past in
     let b = at.inside in
-    let c : records job ≤ p = handed-none job p (value ∙ ap (λ (x : List ℕ). handed x p) at.same) in
+    let c : records job ≤ p = handed_none job p (value ∙ ap (λ (x : List ℕ). handed x p) at.same) in
     let e : p ≡ records job = omega arith in (
       record { some = omega arith; each = λ i l. at.each i (omega arith) },
       at.made ∙ ap (λ (k : ℕ). front job (k - 1)) e,

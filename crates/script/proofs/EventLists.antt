@@ -8,13 +8,13 @@ use Rattle.script.specs.declared.Event.{Event}
 use Rattle.script.specs.declared.Event.TheVariants.{Deliver}
 use Rattle.script.specs.Script.{event_of, event_at, events_to, events}
 
-pub events-none : (job : List ℕ) → events_to job 0 ≡ []
+pub events_none : (job : List ℕ) → events_to job 0 ≡ []
 unfolding events_to
-events-none job = refl
+events_none job = refl
 
-pub events-more : (job : List ℕ) (p : ℕ) → events_to job (p + 1) ≡ events_to job p ++ option_to_list (event_at job p)
+pub events_more : (job : List ℕ) (p : ℕ) → events_to job (p + 1) ≡ events_to job p ++ option_to_list (event_at job p)
 unfolding events_to
-events-more job p = ap (events_to job) (let e : p + 1 ≡ suc p = omega arith in e)
+events_more job p = ap (events_to job) (let e : p + 1 ≡ suc p = omega arith in e)
 
 listed : (o : Option Event) → length (option_to_list o) ≤ 1
 listed None = omega arith
@@ -29,8 +29,8 @@ events_to_few job (suc k) =
     let o = listed (event_at job k) in
     omega arith
 
-pub events-few : (job : List ℕ) → length (events job) ≤ records job
-events-few job = events_to_few job (records job)
+pub events_few : (job : List ℕ) → length (events job) ≤ records job
+events_few job = events_to_few job (records job)
 
 -- an event that delivers does so 1 to 4096 times
 pub deliver_most : (r : Option Fields) (n : ℕ) → event_of r ≡ Some (Deliver n) → (1 ≤ n) × (n ≤ 4096)

@@ -5,8 +5,8 @@ use Rattle.std.proofs.lemmas.List.{take_more_set}
 use Rattle.std.proofs.lemmas.Bool.{cases_lt}
 use Rattle.text.specs.Written.{clip}
 
-clip-more : (a b : List ℕ) → clip (clip a ++ b) ≡ clip (a ++ b)
-clip-more a b = go (cases_lt 1024 (length a))
+clip_more : (a b : List ℕ) → clip (clip a ++ b) ≡ clip (a ++ b)
+clip_more a b = go (cases_lt 1024 (length a))
   where
     go : (1024 < length a) ⊎ (length a ≤ 1024) → clip (clip a ++ b) ≡ clip (a ++ b)
     go (inr h) = ap (λ (x : List ℕ). clip (x ++ b)) (take_all 1024 a h)
@@ -17,7 +17,7 @@ clip-more a b = go (cases_lt 1024 (length a))
 
 -- one piece, and then another
 pub and_then : (s t u a b : List ℕ) → t ≡ clip (s ++ a) → u ≡ clip (t ++ b) → u ≡ clip (s ++ (a ++ b))
-and_then s t u a b p q = q ∙ ap (λ (x : List ℕ). clip (x ++ b)) p ∙ clip-more (s ++ a) b ∙ ap clip (append_assoc s a b)
+and_then s t u a b p q = q ∙ ap (λ (x : List ℕ). clip (x ++ b)) p ∙ clip_more (s ++ a) b ∙ ap clip (append_assoc s a b)
 
 -- nothing yet
 pub none_yet : (s : List ℕ) → length s ≤ 1024 → s ≡ clip (s ++ [])

@@ -1,7 +1,7 @@
 use Rattle.schedule.specs.Order.{entries}
 use Rattle.text.specs.Written.{written}
 use Rattle.report.proofs.Plans.{verdict_is}
-use Rattle.driven.proofs.Room.{account-made}
+use Rattle.driven.proofs.Room.{account_made}
 use Rattle.driven.proofs.describe.Goals as goal
 
 pub returns : goal.returns
@@ -9,7 +9,7 @@ returns c =
     let m = c.args.map.now in
     let drive = c.driven-outcome.result.slots in
     let v = c.check-verdict.result in
-    account-made m (entries drive) (entries c.planned.result) c.driven-outcome.ensures.slots c.planned.ensures.slots
+    account_made m (entries drive) (entries c.planned.result) c.driven-outcome.ensures.slots c.planned.ensures.slots
     (written c.new-text.result) (written c.push_rows.new.text) (written c.push_totals.new.text) c.count.result c.driven-outcome.result.deliveries v
     c.new-text.ensures c.count.ensures c.driven-outcome.ensures.deliveries
     (verdict_is m c.new.result.map.now drive v c.new.ensures.map c.driven-outcome.ensures.slots c.driven-outcome.ensures.accepted c.check-verdict.ensures)

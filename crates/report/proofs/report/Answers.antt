@@ -1,6 +1,6 @@
 use Rattle.std.proofs.Common.{◌∙◌, inl, inr, take_all}
 use Rattle.text.specs.Written.{refused_line}
-use Rattle.records.proofs.Fronts.{refused-index}
+use Rattle.records.proofs.Fronts.{refused_index}
 use Rattle.text.proofs.Lines.{refused_short}
 use Rattle.report.proofs.report.Goals as goal
 
@@ -11,4 +11,4 @@ pub returns-in-Err : goal.returns-in-Err
 returns-in-Err c =
     let e = c.in-Err.refusal in
     let Why = c.in-Err.ensures in
-    inr (e, Why, c.of_refusal.ensures ∙ take_all 1024 (refused_line e) (refused_short e (refused-index c.args.job.now e Why)))
+    inr (e, Why, c.of_refusal.ensures ∙ take_all 1024 (refused_line e) (refused_short e (refused_index c.args.job.now e Why)))

@@ -7,7 +7,7 @@ use Rattle.radio.specs.Waiting.{waiting}
 use Rattle.law.specs.Law.{SlotLaw}
 use Rattle.drive.specs.Drive.{Whole}
 use Rattle.drive.specs.Settling.{Settled}
-use Rattle.drive.proofs.Driven.{drives-all}
+use Rattle.drive.proofs.Driven.{drives_all}
 use Rattle.drive.proofs.Queue.{queue_sure}
 use Rattle.drive.proofs.driving.drive.Goals as goal
 
@@ -33,7 +33,7 @@ returns c =
     let whole = subst (λ (k : ℕ). Whole k order) count c.in_ok-judge.ensures in (
       omega arith,
       whole,
-      drives-all m order c.args.slots.now c.fill.new.table rig.nodes s n
+      drives_all m order c.args.slots.now c.fill.new.table rig.nodes s n
           (subst (λ (x : Map). Settled queue_ways x order rig.nodes s n) opened came.settled) (subst (λ (x : Map). SlotLaw x order rig.nodes) opened came.law) whole
           (λ k l. c.fill.ensures.first k (omega arith) ∙ c.slots.ensures.each k (omega arith)) (λ k l. c.fill.ensures.rest k (omega arith)),
     )

@@ -4,7 +4,7 @@ use Rattle.map.specs.View.{nodes}
 use Rattle.map.specs.declared.Map.{Map}
 use Rattle.radio.specs.Ways.{AirRule}
 use Rattle.rig.specs.Calm.{at}
-use Rattle.drive.proofs.Delivers.{few-left}
+use Rattle.drive.proofs.Delivers.{few_left}
 use Rattle.drive.proofs.Episode.{Busy}
 use Rattle.drive.proofs.Going.{Going, drew, goes_first, on, off}
 use Rattle.drive.proofs.settling.settle.Given as given
@@ -27,7 +27,7 @@ pub overflow_add-came : goal.overflow_add-came
 overflow_add-came g c =
     let rig = c.draw.new.self in
     let e = c.loop-came.invariant.1.sum in
-    omega (arith, few-left rig.map c.args.a (at rig.nodes))
+    omega (arith, few_left rig.map c.args.a (at rig.nodes))
 
 pub loop-came-preserved : goal.loop-came-preserved
 loop-came-preserved g c =

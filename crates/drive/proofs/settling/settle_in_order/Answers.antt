@@ -5,7 +5,7 @@ use Rattle.map.specs.declared.Map.{Map}
 use Rattle.map.proofs.Counts.{degree_le}
 use Rattle.radio.specs.Ways.{AirRule}
 use Rattle.drive.specs.Settling.{Resting, Settling, Settled}
-use Rattle.drive.proofs.Settled.{settled-none, resting, settled-more, settled-law, next_open, few-came}
+use Rattle.drive.proofs.Settled.{settled_none, resting, settled_more, settled_law, next_open, few_came}
 use Rattle.drive.proofs.settling.settle_in_order.Given as given
 use Rattle.drive.proofs.settling.settle_in_order.Goals as goal
 
@@ -13,7 +13,7 @@ rule : (g : given.Over) → AirRule g.R.Radio.ways
 rule g = let met = g.met.R.Radio in record { put_air = met.put_air; take_air = met.take_air; taken_air = met.taken_air }
 
 pub loop-node-init : goal.loop-node-init
-loop-node-init g c = let r = g.R.Radio in (refl, settled-none r.ways c.args.rig.now.map c.args.rig.now.nodes (r.state c.args.radio.now) c.requires.new c.requires.empty)
+loop-node-init g c = let r = g.R.Radio in (refl, settled_none r.ways c.args.rig.now.map c.args.rig.now.nodes (r.state c.args.radio.now) c.requires.new c.requires.empty)
 
 pub settle-count-requires : goal.settle-count-requires
 settle-count-requires g c =
@@ -35,7 +35,7 @@ settle-count-requires g c =
 pub overflow_add-count : goal.overflow_add-count
 overflow_add-count g c =
     let r = g.R.Radio in
-    let few = few-came r.ways _ _ _ _ _ c.loop-node.invariant.1 in
+    let few = few_came r.ways _ _ _ _ _ c.loop-node.invariant.1 in
     let e = c.settle-count.ensures.settling.thrice in
     omega (arith, degree_le c.loop-node.rig.map (get_or c.args.order.now c.loop-node.node-index 0))
 
@@ -56,7 +56,7 @@ loop-node-preserved g c =
     let now-settled = subst (λ (x : Map). Settling r.ways x a b b' s s' n) c.loop-node.invariant.0 c.settle-count.ensures.settling in (
       c.settle-count.ensures.map ∙ c.loop-node.invariant.0,
       subst (λ (o : List ℕ). Settled r.ways m o b' s' (c.loop-node.count + n)) (sym (take_more order i 0 l))
-          (settled-more r.ways m (take i order) a b b' s s' _ n (c.requires.fine i l).0 (next_open r.ways (rule g) m order c.requires.fine i l b s _ so_far) so_far now-settled),
+          (settled_more r.ways m (take i order) a b b' s s' _ n (c.requires.fine i l).0 (next_open r.ways (rule g) m order c.requires.fine i l b s _ so_far) so_far now-settled),
     )
 
 pub returns : goal.returns
@@ -67,4 +67,4 @@ returns g c =
     let b = c.loop-node.rig.nodes in
     let s = r.state c.loop-node.radio in
     let whole = subst (λ (o : List ℕ). Settled r.ways m o b s c.loop-node.count) (take_all c.loop-node.node-index order c.loop-node-test.false) c.loop-node.invariant.1 in
-    record { map = c.loop-node.invariant.0; settled = whole; law = settled-law r.ways (rule g) m order b s c.loop-node.count whole }
+    record { map = c.loop-node.invariant.0; settled = whole; law = settled_law r.ways (rule g) m order b s c.loop-node.count whole }

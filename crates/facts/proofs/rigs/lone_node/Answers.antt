@@ -5,13 +5,13 @@ use Rattle.rig.specs.Steps.{After}
 use Rattle.rig.specs.declared.Lottery.{Lottery}
 use Rattle.facts.specs.Paths.{path}
 use Rattle.facts.proofs.Stands.{Stands, drew, draw_is, told_is}
-use Rattle.facts.proofs.Drawing.{lone_after, lone-drawn}
+use Rattle.facts.proofs.Drawing.{lone_after, lone_drawn}
 use Rattle.facts.proofs.rigs.lone_node.Goals as goal
 
 pub returns : goal.returns
 returns c =
     let first : Stands (path 1) new_board _ c.rig_on_path-rig.result _ = record { map = c.rig_on_path-rig.ensures.map; nodes = c.rig_on_path-rig.ensures.nodes; radio = c.new-queue.ensures } in
-    let is = lone-drawn c.rig_on_path-rig.result.map in
+    let is = lone_drawn c.rig_on_path-rig.result.map in
     let after = drew first 0 1 lone_after is c.draw-answer.ensures.made in
     record {
       map = after.map;

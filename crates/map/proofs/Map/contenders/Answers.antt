@@ -3,8 +3,8 @@ use Rattle.marks.specs.View.{marked}
 use Rattle.marks.specs.declared.Marks.{Marks}
 use Rattle.map.specs.View.{linked, Contend}
 use Rattle.map.proofs.Near.{Reach, reach_by, reach_past, contends}
-use Rattle.map.proofs.Contends.{contend-swap, contend_itself}
-use Rattle.map.proofs.Counts.{size-contenders}
+use Rattle.map.proofs.Contends.{contend_swap, contend_itself}
+use Rattle.map.proofs.Counts.{size_contenders}
 use Rattle.map.proofs.Map.contenders.Goals as goal
 use Rattle.map.proofs.Map.contenders.Goals.{then-has, else-has}
 
@@ -33,7 +33,7 @@ returns c =
     let m = c.args.self.now in
     record {
       marks = reached c;
-      len = size-contenders m c.args.n c.without.result (reached c);
-      swaps = contend-swap m;
+      len = size_contenders m c.args.n c.without.result (reached c);
+      swaps = contend_swap m;
       apart = contend_itself m;
     }

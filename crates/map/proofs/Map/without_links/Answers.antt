@@ -1,6 +1,6 @@
 use Rattle.std.proofs.Common.{replicate, refl}
 use Rattle.map.specs.Rows.{has}
-use Rattle.map.proofs.Rows.{no_links, bare_mutual, bare_apart, bare_within, bare-net}
+use Rattle.map.proofs.Rows.{no_links, bare_mutual, bare_apart, bare_within, bare_net}
 use Rattle.map.proofs.Map.without_links.Goals as goal
 
 pub invariant_of-result : goal.invariant_of-result
@@ -18,4 +18,4 @@ invariant_of-result c =
 
 pub returns : goal.returns
 returns c =
-    bare-net c.args.count (has (replicate 64 c.empty-rows.result)) (no_links 64 c.empty-rows.result c.empty-rows.ensures.marks)
+    bare_net c.args.count (has (replicate 64 c.empty-rows.result)) (no_links 64 c.empty-rows.result c.empty-rows.ensures.marks)

@@ -2,7 +2,7 @@ use Rattle.std.proofs.Common.{ℕ, ◌^◌, ◌<◌, ap, arith}
 use Rattle.std.proofs.lemmas.Bool.{eqb-true, eq-eqb}
 use Rattle.marks.specs.View.{marked}
 use Rattle.marks.specs.declared.Marks.{Marks}
-use Rattle.marks.proofs.Sets.{same-marks}
+use Rattle.marks.proofs.Sets.{same_marks}
 use Rattle.marks.proofs.MarksPartialEq.eq.Goals as goal
 
 pub returns-clause-same : goal.returns-clause-same
@@ -14,7 +14,7 @@ returns-clause-same c =
     record {
       marks = (
         λ t j _. ap (λ (m : Marks). marked m j) (ap (λ (n : ℕ). record { bits = n }) (eqb-true a.bits b.bits t)),
-        λ f. eq-eqb a.bits b.bits (ap (λ (m : Marks). m.bits) (same-marks a b h l f)),
+        λ f. eq-eqb a.bits b.bits (ap (λ (m : Marks). m.bits) (same_marks a b h l f)),
       );
       value = (
         λ t. ap (λ (n : ℕ). record { bits = n }) (eqb-true a.bits b.bits t),

@@ -1,7 +1,7 @@
 use Rattle.std.proofs.Common.{sym, refl}
 use Rattle.map.specs.View.{net}
 use Rattle.records.specs.Build.{good}
-use Rattle.records.proofs.Fronts.{unfit_bad, no_record, first_good, first-bad, next_good, next_bad, all-good}
+use Rattle.records.proofs.Fronts.{unfit_bad, no_record, first_good, first_bad, next_good, next_bad, all_good}
 use Rattle.records.proofs.building.build.Goals as goal
 
 pub returns-in_default : goal.returns-in_default
@@ -17,7 +17,7 @@ pub returns-in_default-opened : goal.returns-in_default-opened
 returns-in_default-opened c =
     let k = c.in-Some.ensures in (
       sym c.in_ok-check_length.ensures,
-      first-bad c.args.job.now c.new-reader.result.job.now c.in-Some.first.now c.new-reader.result.place c.next.new.self.place
+      first_bad c.args.job.now c.new-reader.result.job.now c.in-Some.first.now c.new-reader.result.place c.next.new.self.place
           c.new-reader.ensures.job k.value k.place c.index-in_default-opened.result c.new-reader.ensures.place c.in_default-opened.ensures c.index-in_default-opened.ensures,
     )
 
@@ -46,5 +46,5 @@ loop-record-preserved c =
 
 pub returns : goal.returns
 returns c =
-    let a = all-good c.args.job.now c.loop-record.reader.job.now c.loop-record.reader.place (net c.loop-record.map) c.loop-record.invariant c.in_default-next.ensures.value in
+    let a = all_good c.args.job.now c.loop-record.reader.job.now c.loop-record.reader.place (net c.loop-record.map) c.loop-record.invariant c.in_default-next.ensures.value in
     (sym c.in_ok-check_length.ensures, a.0, a.1)

@@ -1,7 +1,7 @@
 use Rattle.std.proofs.Common.{◌≡◌, ◌-◌, length, take, replicate, ◌∙◌, arith, length-take, get_or-take}
 use lib.ListN.{length-replicate}
 use Rattle.map.specs.View.{nodes}
-use Rattle.report.proofs.Plans.{plan-rising, zeros}
+use Rattle.report.proofs.Plans.{plan_rising, zeros}
 use Rattle.report.proofs.planning.planned.Goals as goal
 
 pub returns : goal.returns
@@ -12,7 +12,7 @@ returns c =
     let count = c.from-count.result in
     let n : count ≡ nodes m = c.from-count.ensures ∙ c.count.ensures in
     let full : length order ≡ 64 = c.rising-order.ensures.len in
-    let all = plan-rising m c.new.result.map.now (take (count - 0) order) (replicate 64 0) c.plan.new.slots c.plan.result c.new.ensures.map
+    let all = plan_rising m c.new.result.map.now (take (count - 0) order) (replicate 64 0) c.plan.new.slots c.plan.result c.new.ensures.map
     (simp length-take (omega arith))
     (λ k l. get_or-take (count - 0) order k 0 (omega arith) ∙ c.rising-order.ensures.items k (omega arith))
     (simp length-replicate m.most) c.plan.ensures.after c.plan.ensures.sound in

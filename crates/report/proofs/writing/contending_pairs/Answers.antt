@@ -2,7 +2,7 @@ use Rattle.std.proofs.Common.{◌≡◌, refl, ap, ◌∙◌, arith}
 use Rattle.marks.specs.Below.{sum_below}
 use Rattle.marks.proofs.Below.{sum_more}
 use Rattle.map.specs.View.{nodes, contend, contender_count}
-use Rattle.map.proofs.Contends.{contend_mutual, contend-apart}
+use Rattle.map.proofs.Contends.{contend_mutual, contend_apart}
 use Rattle.map.proofs.Counts.{handshake, contenders_le}
 use Rattle.report.proofs.writing.contending_pairs.Goals as goal
 
@@ -27,6 +27,6 @@ returns c =
     let m = c.args.map.now in
     let e : c.loop-n.n ≡ nodes m = omega arith in
     let s = ap (sum_below (contender_count m)) e in
-    let t = handshake (contend m) (contend_mutual m) (contend-apart m) (nodes m) in
+    let t = handshake (contend m) (contend_mutual m) (contend_apart m) (nodes m) in
     let i = c.loop-n.invariant.0 in
     omega arith

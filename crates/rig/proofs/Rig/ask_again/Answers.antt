@@ -4,7 +4,7 @@ use Rattle.map.specs.View.{nodes}
 use Rattle.rig.specs.Calm.{at}
 use Rattle.rig.specs.Board.{each}
 use Rattle.rig.specs.Steps.{request, unmarked}
-use Rattle.rig.proofs.Rows.{each_none, each-sent, each_skipped, each_all, each-length, each_length_none, each-most}
+use Rattle.rig.proofs.Rows.{each_none, each_sent, each_skipped, each_all, each-length, each_length_none, each_most}
 use Rattle.rig.proofs.Rig.ask_again.Goals as goal
 use Rattle.rig.proofs.Rig.ask_again.Goals.{then-linked, else-linked, then-open, else-open}
 
@@ -15,7 +15,7 @@ pub overflow_add-sent : goal.overflow_add-sent
 overflow_add-sent g c =
     let v = at c.args.self.now.nodes c.args.k in
     let e = c.loop-j.invariant.1 in
-    omega (arith, each-most (unmarked c.args.self.now.map v c.args.k) (request v.round c.args.k) c.loop-j.j)
+    omega (arith, each_most (unmarked c.args.self.now.map v c.args.k) (request v.round c.args.k) c.loop-j.j)
 
 pub loop-j-preserved : goal.loop-j-preserved
 loop-j-preserved g c =
@@ -34,7 +34,7 @@ loop-j-preserved g c =
     ] in
     elim c.if-open.branch [
       | then-open w ↦ (
-        each-sent r.ways s p f t (r.state c.if-open.radio) j (test ∙ w.if-open.true) c.loop-j.invariant.0 (ap r.state w.radio-is ∙ w.send.ensures),
+        each_sent r.ways s p f t (r.state c.if-open.radio) j (test ∙ w.if-open.true) c.loop-j.invariant.0 (ap r.state w.radio-is ∙ w.send.ensures),
         w.sent-is ∙ sym (each-length p f j true (test ∙ w.if-open.true) ∙ ap (λ (x : ℕ). x + 1) (sym c.loop-j.invariant.1)),
       )
       | else-open w ↦ (

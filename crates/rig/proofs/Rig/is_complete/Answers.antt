@@ -2,7 +2,7 @@ use Rattle.std.proofs.Common.{not, sym, ap, ◌∙◌, arith}
 use Rattle.std.proofs.lemmas.Bool.{and_from}
 use Rattle.marks.specs.View.{marked}
 use Rattle.map.specs.View.{linked, nodes}
-use Rattle.schedule.proofs.Slots.{some_at, some-none}
+use Rattle.schedule.proofs.Slots.{some_at, some_none}
 use Rattle.rig.specs.Calm.{at}
 use Rattle.rig.specs.Steps.{unmarked}
 use Rattle.rig.proofs.Rig.is_complete.Goals as goal
@@ -20,4 +20,4 @@ pub returns : goal.returns
 returns c =
     let m = c.args.self.now.map in
     let k = c.args.k in
-    sym (ap not (some-none (unmarked m (at c.args.self.now.nodes k) k) (nodes m) (λ i l. c.loop-j.invariant i (omega (arith, c.count-j-end.ensures)))))
+    sym (ap not (some_none (unmarked m (at c.args.self.now.nodes k) k) (nodes m) (λ i l. c.loop-j.invariant i (omega (arith, c.count-j-end.ensures)))))

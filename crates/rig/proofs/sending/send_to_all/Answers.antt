@@ -1,7 +1,7 @@
 use Rattle.std.proofs.Common.{◌≡◌, sym, ap, ◌∙◌, arith}
 use Rattle.map.specs.View.{linked, nodes}
 use Rattle.rig.specs.Steps.{plain}
-use Rattle.rig.proofs.Rows.{each_none, each-sent, each_skipped, each_all}
+use Rattle.rig.proofs.Rows.{each_none, each_sent, each_skipped, each_all}
 use Rattle.rig.proofs.sending.send_to_all.Goals as goal
 use Rattle.rig.proofs.sending.send_to_all.Goals.{then-linked, else-linked}
 
@@ -16,7 +16,7 @@ loop-j-preserved g c =
     let f = plain c.args.kind c.args.round c.args.slot c.args.sender in
     elim c.if-linked.branch [
       | then-linked w ↦
-          each-sent r.ways s p f (r.state c.loop-j.radio) (r.state c.if-linked.radio) c.loop-j.j (sym c.linked.ensures ∙ w.if-linked.true) c.loop-j.invariant
+          each_sent r.ways s p f (r.state c.loop-j.radio) (r.state c.if-linked.radio) c.loop-j.j (sym c.linked.ensures ∙ w.if-linked.true) c.loop-j.invariant
           (ap r.state w.radio-is ∙ w.send.ensures)
       | else-linked w ↦
           ap r.state w.radio-is ∙ each_skipped r.ways s p f (r.state c.loop-j.radio) c.loop-j.j (sym c.linked.ensures ∙ w.if-linked.false) c.loop-j.invariant

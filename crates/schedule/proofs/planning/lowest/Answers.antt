@@ -1,6 +1,6 @@
 use Rattle.std.proofs.Common.{sym, arith}
 use Rattle.schedule.specs.Order.{entries}
-use Rattle.schedule.proofs.Slots.{least_is, least-last}
+use Rattle.schedule.proofs.Slots.{least_is, least_last}
 use Rattle.schedule.proofs.planning.lowest.Goals as goal
 
 pub returns-then-not-held : goal.returns-then-not-held
@@ -10,5 +10,5 @@ returns-then-not-held g c =
 
 pub returns : goal.returns
 returns g c =
-    least-last (g.C.ClashRule.clash c.args.rule.now) c.args.count (entries c.args.slots.now) c.args.a c.limit.result
+    least_last (g.C.ClashRule.clash c.args.rule.now) c.args.count (entries c.args.slots.now) c.args.a c.limit.result
     (omega (arith, c.limit.ensures, c.requires.few.0)) (λ t p q. c.loop-slot.invariant t p (omega arith))

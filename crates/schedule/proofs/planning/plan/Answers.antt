@@ -1,13 +1,13 @@
 use Rattle.std.proofs.Common.{◌≡◌, ℕ, ◌<◌, ◌≤◌, List, length, get_or, sym, refl, ap, ◌∙◌, arith, take_all, get_or-set_other}
 use Rattle.schedule.specs.Rand.{rand, Fine}
-use Rattle.schedule.proofs.Accept.{rand-accepted}
-use Rattle.schedule.proofs.Rand.{rand-none, rand-law}
+use Rattle.schedule.proofs.Accept.{rand_accepted}
+use Rattle.schedule.proofs.Rand.{rand_none, rand_law}
 use Rattle.schedule.proofs.Table.{table_more, table_is}
 use Rattle.schedule.proofs.planning.plan.Goals as goal
 
 pub loop-item-init : goal.loop-item-init
 loop-item-init g c =
-    ((λ k l. c.clear.ensures.none k l ∙ sym (rand-none (g.C.ClashRule.clash c.args.rule.now) c.bounded-count.result k)), λ k l. refl)
+    ((λ k l. c.clear.ensures.none k l ∙ sym (rand_none (g.C.ClashRule.clash c.args.rule.now) c.bounded-count.result k)), λ k l. refl)
 
 pub loop-item-preserved : goal.loop-item-preserved
 loop-item-preserved g c =
@@ -37,5 +37,5 @@ returns g c =
     let relation = table_is clash n order slots fine is in
     record {
       after = (omega arith, fine, is, λ k l. c.loop-item.invariant.1 k (omega arith) ∙ c.clear.ensures.rest k (omega arith));
-      sound = (relation, rand-accepted clash n (laws.swap rule) (laws.apart rule) order slots long relation, rand-law clash n (laws.swap rule) (laws.apart rule));
+      sound = (relation, rand_accepted clash n (laws.swap rule) (laws.apart rule) order slots long relation, rand_law clash n (laws.swap rule) (laws.apart rule));
     }

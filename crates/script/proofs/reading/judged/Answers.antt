@@ -4,7 +4,7 @@ use Rattle.records.specs.Fields.{records}
 use Rattle.records.proofs.Fronts.{no_record}
 use Rattle.script.specs.Script.{good}
 use Rattle.script.specs.Steps.{SetUp}
-use Rattle.script.proofs.Drafts.{first_good, first-bad, next_good, next_bad, all-good}
+use Rattle.script.proofs.Drafts.{first_good, first_bad, next_good, next_bad, all_good}
 use Rattle.script.proofs.reading.judged.Goals as goal
 
 pub returns-in_err-first : goal.returns-in_err-first
@@ -19,7 +19,7 @@ returns-in_err-map c =
     let job = c.args.reader.now.job.now in
     let k = c.in_ok-first.ensures in
     rw c.from_residual-in_err-map.ensures
-    (first-bad job job c.in_ok-first.first.now c.args.reader.now.place c.next.new.self.place refl k.value k.place
+    (first_bad job job c.in_ok-first.first.now c.args.reader.now.place c.next.new.self.place refl k.value k.place
     (c.next.new.self.place - 1) c.requires c.in_err-map.ensures refl)
 
 pub loop-record-init : goal.loop-record-init
@@ -48,4 +48,4 @@ loop-record-preserved c =
 pub returns : goal.returns
 returns c =
     subst (λ (job : List ℕ). SetUp job c.loop-record.draft.script) c.in_ok-first.ensures.job
-    (all-good c.next.new.self.job.now c.loop-record.reader.job.now c.loop-record.reader.place c.loop-record.draft c.loop-record.invariant c.in_default.ensures.value)
+    (all_good c.next.new.self.job.now c.loop-record.reader.job.now c.loop-record.reader.place c.loop-record.draft c.loop-record.invariant c.in_default.ensures.value)

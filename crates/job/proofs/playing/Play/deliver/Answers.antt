@@ -1,6 +1,6 @@
 use Rattle.std.proofs.Common.{sym, ◌∙◌, arith}
 use Rattle.job.specs.Stands.{stand}
-use Rattle.job.proofs.Turns.{turn_on, turn_off, turns-all}
+use Rattle.job.proofs.Turns.{turn_on, turn_off, turns_all}
 use Rattle.job.proofs.playing.Play.deliver.Goals as goal
 
 pub loop-turn-preserved : goal.loop-turn-preserved
@@ -29,6 +29,6 @@ returns g c =
     let (same, so_far, few) = c.loop-turn.invariant in
     record {
       map = same;
-      after = turns-all g.R.Radio.ways c.args.self.now.rig.map c.args.times c.loop-turn._turn (stand c.args.self.now (g.R.Radio.state c.args.radio.now)) (stand c.loop-turn.self (g.R.Radio.state c.loop-turn.radio)) so_far c.loop-turn-test.false;
+      after = turns_all g.R.Radio.ways c.args.self.now.rig.map c.args.times c.loop-turn._turn (stand c.args.self.now (g.R.Radio.state c.args.radio.now)) (stand c.loop-turn.self (g.R.Radio.state c.loop-turn.radio)) so_far c.loop-turn-test.false;
       counts = (let l = c.loop-turn.auto._turn-end in omega arith);
     }

@@ -1,4 +1,4 @@
-use Rattle.radio.specs.Places.{at_there, at-past}
+use Rattle.radio.specs.Places.{at_there, at_past}
 use Rattle.radio.proofs.air.Air.at.Goals as goal
 
 pub returns-then-place-self : goal.returns-then-place-self
@@ -9,4 +9,4 @@ returns-then-place-self c =
 pub returns-else-place-self : goal.returns-else-place-self
 returns-else-place-self c =
     let a = c.args.self.now in
-    at-past a.items a.full a.len c.args.place a.within c.if-place-self.false
+    at_past a.items a.full a.len c.args.place a.within c.if-place-self.false

@@ -1,6 +1,6 @@
 use Rattle.std.proofs.Common.{◌≡◌, ℕ, ◌-◌, subst, arith, length-take}
 use Rattle.radio.specs.Waiting.{waiting}
-use Rattle.radio.specs.Places.{Moved, removed-past, moved_none, moved_more, moved_all}
+use Rattle.radio.specs.Places.{Moved, removed_past, moved_none, moved_more, moved_all}
 use Rattle.radio.proofs.air.Air.remove.Goals as goal
 
 pub loop-k-init : goal.loop-k-init
@@ -26,4 +26,4 @@ returns-after-loop-k c =
 pub returns-else-place-self : goal.returns-else-place-self
 returns-else-place-self c =
     let a = c.args.self.now in
-    removed-past (waiting a) c.args.place (simp length-take (omega arith))
+    removed_past (waiting a) c.args.place (simp length-take (omega arith))
