@@ -6,8 +6,9 @@ A name is turned where a file of specs/ or proofs/ declares it, and then whereve
   afterPut   becomes after_put, a word of several words;
   sum-more   becomes sum_more; a dash stays between two names that the statement itself has, as in marked-collect;
   why        becomes Why, since it is a fact.
+In a clause of a function with a bound, as R: Radio, a ghost member of the trait is written with the parameter, as R.ways.
 A name that would fall together with another one, ours or the library's, keeps its dash and is printed. Goals, which Rattle names,
-functions of src/, strings and words of comments that are no names stay. --table prints old and new, and writes nothing. A second
+functions of src/, strings, words of comments that are no names, and the page on the move (docs/PORT.md) stay. --table prints old and new, and writes nothing. A second
 run writes nothing more.
 """
 
@@ -21,6 +22,8 @@ COMMENT = re.compile(r"(?<![^\s(){}.;,])--[^\n]*")
 DECLARED = re.compile(r"^(\s*)((?:abbrev |unfoldable |pub )*)([^\s(){}.;,:]+) : (.*)$")
 TYPE = re.compile(r"^\s*(?:abbrev |unfoldable |pub )*(?:record|data) ([^\s(){}.;,:]+)")
 CAMEL = re.compile(r"^[a-z][a-z0-9]*(?:[A-Z][a-z0-9]*)+$")
+QUIET = re.compile(r'//[^\n]*|"(?:\\.|[^"\\])*"')
+GHOST = re.compile(r"ghost use [^;]*;|(?:ensures|requires)[^{\n]*\{.*")
 USED = re.compile(r"use (?:Rattle\.std|mathlib|borrow|Prim|native|lib)[\w.'·]*\.\{([^}]*)\}")
 FACTS = {"why": "Why"}
 # functions of the library that lemmas of ours are named after
@@ -127,6 +130,43 @@ def antt(text, turned, plain):
     return "".join(parts + [turn(text[last:], turned)])
 
 
+def rust(text, turned, plain):
+    """Code and clauses; of comments only names of several words; no string."""
+    facts = {a: b for a, b in turned.items() if a in FACTS}
+    dashed = {a: b for a, b in turned.items() if "-" in a}
+    parts, last = [], 0
+    for m in list(QUIET.finditer(text)) + [None]:
+        code = turn(text[last : m.start() if m else len(text)], {**plain, **dashed})
+        parts.append(GHOST.sub(lambda g: turn(g.group(), facts), code))
+        if m:
+            parts.append(turn(m.group(), plain) if m.group().startswith("//") else m.group())
+            last = m.end()
+    return "".join(parts)
+
+
+def members():
+    """The ghost members of each trait of src/."""
+    found = {}
+    for path in files(".rt"):
+        for name, body in re.findall(r"^pub trait (\w+) \{\n(.*?)^\}", read(path), re.M | re.S):
+            found[name] = re.findall(r"^    ghost (\w+):", body, re.M)
+    return found
+
+
+def bound(text, traits):
+    lines, now = [], None
+    for line in text.split("\n"):
+        if re.search(r"\bfn \w+", line):
+            now = re.search(r"\bfn \w+<(\w+): (\w+)", line)
+        if now and re.match(r"\s*(?:requires|ensures)\b", line):
+            head, clause = line.split("{", 1)
+            for name in traits.get(now.group(2), []):
+                clause = re.sub(rf"(?<![\w.'-]){name}(?![\w'-])", f"{now.group(1)}.{name}", clause)
+            line = head + "{" + clause
+        lines.append(line)
+    return "\n".join(lines)
+
+
 def main():
     turned = table()
     plain = {a: b for a, b in turned.items() if CAMEL.match(a)}
@@ -134,18 +174,16 @@ def main():
         for a, b in sorted(turned.items()):
             print(a, b, sep="\t")
         return
+    traits = members()
     for path in files(".antt", ".rt", ".edit"):
         old = read(path)
-        if path.endswith(".antt"):
-            new = antt(old, turned, plain)
-        else:
-            # of Rust only what is a clause or an import can name a fact of FACTS
-            new = turn(old, plain)
-            new = re.sub(r"(ghost use [^;]*;|ensures[^{]*\{.*|requires[^{]*\{.*)", lambda m: turn(m.group(), {k: v for k, v in turned.items() if k in FACTS}), new)
+        new = antt(old, turned, plain) if path.endswith(".antt") else rust(old, turned, plain)
+        if path.endswith(".rt"):
+            new = bound(new, traits)
         if new != old:
             with open(path, "w", encoding="utf-8") as f:
                 f.write(new)
-    for name in ["README.md"] + [os.path.join("docs", n) for n in sorted(os.listdir("docs"))]:
+    for name in ["README.md"] + [os.path.join("docs", n) for n in sorted(os.listdir("docs")) if not n.startswith("PORT")]:
         if os.path.exists(name) and name.endswith(".md"):
             old = read(name)
             new = re.sub(r"`[^`\n]+`", lambda m: turn(m.group(), {**plain, **FACTS}), old)
