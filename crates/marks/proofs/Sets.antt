@@ -3,12 +3,13 @@ use Rattle.std.proofs.Common.{◌≡◌, ℕ, ◌<◌, ◌≤◌, Bool, true, fa
 use Rattle.std.proofs.lemmas.Bool.{cases_eq, ne_eqb}
 use Rattle.marks.specs.View.{marked, Fits}
 use Rattle.marks.specs.Sets.{collect, none}
+use Rattle.marks.specs.Equal.{eq_tells_same}
 use Rattle.marks.specs.declared.Marks.{Marks}
-use Rattle.marks.proofs.Digits.{bit_zero, bit_past, bit-made, made_lt, same_digits}
+use Rattle.marks.proofs.Digits.{bit_zero, bit_past, bit-made, made_lt}
 
 -- two sets with the same marks are equal
 pub same_marks : (a b : Marks) → Fits a → Fits b → ((j : ℕ) → j < 64 → marked a j ≡ marked b j) → a ≡ b
-same_marks a b h l f = ap (λ (n : ℕ). record { bits = n }) (same_digits 64 a.bits b.bits h l f)
+same_marks a b h l f = let s = eq_tells_same a b h l in s.value.0 (s.marks.1 f)
 
 pub marked_past : (m : Marks) (j : ℕ) → Fits m → 64 ≤ j → marked m j ≡ false
 marked_past m j h l = bit_past m.bits 64 j h l
