@@ -12,6 +12,16 @@ use Rattle.std.proofs.lemmas.Nat.Bits.{bit_at-lt, bit_at-zero, bit_at_or, bit_at
 use Rattle.marks.specs.Below.{sum_below, count_below}
 use Rattle.marks.specs.View.{bit}
 
+-- a digit set that is none, and one taken away that is not there
+
+pub or_none : (x : Bool) {y : Bool} → y ≡ false → x ≡ (x || y)
+or_none true e = refl
+or_none false e = sym e
+
+pub and_not_none : (x : Bool) {y : Bool} → y ≡ false → x ≡ (x && not y)
+and_not_none true e = ap not (sym e)
+and_not_none false e = refl
+
 -- a digit that is known
 at : (n i v : ℕ) → bit_at n i ≡ v → bit n i ≡ eqb v 1
 unfolding bit
@@ -54,15 +64,11 @@ bit_with a i j h = go (cases_eq j i)
     or_true true e = refl
     or_true false e = e
 
-    or_false : (x : Bool) {y : Bool} → y ≡ false → (x || y) ≡ x
-    or_false true e = refl
-    or_false false e = e
-
     go : (j ≡ i) ⊎ (j ≡ i → ⊥) → bit (bit_or a (1 * 2 ^ i % 2 ^ 64)) j ≡ (bit a j || eqb j i)
     go (inl e) =
         ap (bit (bit_or a (1 * 2 ^ i % 2 ^ 64))) e ∙ at (bit_or a (1 * 2 ^ i % 2 ^ 64)) i 1 (bit_at_set_same w64 a i h)
         ∙ sym (or_true (bit a j) (eq-eqb j i e))
-    go (inr d) = ap (λ (x : ℕ). eqb x 1) (bit_at_set_other w64 a i h j d) ∙ sym (or_false (bit a j) (ne_eqb j i d))
+    go (inr d) = ap (λ (x : ℕ). eqb x 1) (bit_at_set_other w64 a i h j d) ∙ or_none (bit a j) (ne_eqb j i d)
 
 pub with_lt : (a i : ℕ) → a < 2 ^ 64 → bit_or a (1 * 2 ^ i % 2 ^ 64) < 2 ^ 64
 with_lt a i l = or_lt 64 a (1 * 2 ^ i % 2 ^ 64) l (mod-lt (1 * 2 ^ i) (pow_pos 64))
@@ -77,18 +83,14 @@ bit_without a i j h l = go (cases_eq j i) (cases_lt j 64)
     less : ℕ
     less = bit_and a (bit_not w64 (1 * 2 ^ i % 2 ^ 64))
 
-    and_true : (x : Bool) {y : Bool} → y ≡ false → (x && not y) ≡ x
-    and_true true e = ap not e
-    and_true false e = refl
-
     and_false : (x : Bool) {y : Bool} → y ≡ true → (x && not y) ≡ false
     and_false true e = ap not e
     and_false false e = refl
 
     go : (j ≡ i) ⊎ (j ≡ i → ⊥) → (j < 64) ⊎ (64 ≤ j) → bit less j ≡ (bit a j && not (eqb j i))
     go (inl e) _ = ap (bit less) e ∙ at less i 0 (bit_at_clear_same w64 a i h) ∙ sym (and_false (bit a j) (eq-eqb j i e))
-    go (inr d) (inl k) = ap (λ (x : ℕ). eqb x 1) (bit_at_clear_other w64 a i h j k d) ∙ sym (and_true (bit a j) (ne_eqb j i d))
-    go (inr d) (inr k) = bit_past less 64 j (without_lt a (bit_not w64 (1 * 2 ^ i % 2 ^ 64)) l) k ∙ sym (bit_past a 64 j l k) ∙ sym (and_true (bit a j) (ne_eqb j i d))
+    go (inr d) (inl k) = ap (λ (x : ℕ). eqb x 1) (bit_at_clear_other w64 a i h j k d) ∙ and_not_none (bit a j) (ne_eqb j i d)
+    go (inr d) (inr k) = bit_past less 64 j (without_lt a (bit_not w64 (1 * 2 ^ i % 2 ^ 64)) l) k ∙ sym (bit_past a 64 j l k) ∙ and_not_none (bit a j) (ne_eqb j i d)
 
 -- a number made of digits
 

@@ -1,7 +1,7 @@
 use Rattle.std.proofs.Common.{◌^◌, ◌<◌, arith}
 use Rattle.marks.specs.View.{bit}
 use Rattle.marks.proofs.Digits.{bit_past, bit_without, without_lt}
-use Rattle.marks.proofs.Sets.{is_collect, and_not_none}
+use Rattle.marks.proofs.Sets.{is_collect, unmarked}
 use Rattle.marks.proofs.Marks.without.Goals as goal
 
 pub returns-then-i-lt-LIMIT : goal.returns-then-i-lt-LIMIT
@@ -16,5 +16,5 @@ pub returns-else-i-lt-LIMIT : goal.returns-else-i-lt-LIMIT
 returns-else-i-lt-LIMIT c =
     let a = c.args.self.bits in
     let h : a < 2 ^ 64 = omega arith in
-    let f = and_not_none (bit a) c.args.i (bit_past a 64 c.args.i h (omega arith)) in
+    let f = unmarked (bit a) c.args.i (bit_past a 64 c.args.i h (omega arith)) in
     record { value = is_collect c.args.self _ h (λ j _. f j); marks = f }
