@@ -55,18 +55,6 @@ module _ (job : List ℕ) where
       ap (λ (f : ℕ → ℕ → Bool). record { size = count_in job; links = f })
       (fun_ext (λ x. fun_ext (λ y. or_swap (some_below (λ i. names job (suc i) x y) k) (names job (suc k) x y))))
 
--- the first record that is not good, and the first that does not fit where what is good fits
-
-pub unfit_bad : (job : List ℕ) (i : ℕ) → FirstUnfit (good job) (records job) i → FirstBad job i
-unfit_bad job i u = record { before = u.before; bad = u.bad; there = u.there }
-
-bad_unfit : (job : List ℕ) (i : ℕ) → FirstBad job i → FirstUnfit (good job) (records job) i
-bad_unfit job i u = record { before = u.before; bad = u.bad; there = u.there }
-
-refused_unfit : (job : List ℕ) (e : Refusal) → Refused job e → RefusedFor (good job) job e
-refused_unfit job (Record i) r = (r.0, bad_unfit job i r.1)
-refused_unfit job e r = r
-
 -- what a reader hands out
 
 pub handed_some : (job xs : List ℕ) (p : ℕ) → Some xs ≡ handed job p → (p < records job) × (xs ≡ record_at job p)
@@ -138,7 +126,7 @@ module _ (job j xs : List ℕ) (p q : ℕ) (same : j ≡ job) (value : Some xs �
       }
 
   pub first_bad : (r : ℕ) → p ≡ 0 → opens (taken xs) ≡ false → r ≡ q - 1 → FirstBad job r
-  first_bad r z f e = unfit_bad job r (fit_no_more (good job) r (λ i l. absurd (let n : ⊥ = omega arith in n)) (sym (good_first z) ∙ f) e)
+  first_bad r z f e = fit_no_more (good job) r (λ i l. absurd (let n : ⊥ = omega arith in n)) (sym (good_first z) ∙ f) e
 
   module _ (n : Net) (at : Reached job j p n) where
     good_next : joins n.size (taken xs) ≡ good job p
@@ -165,7 +153,7 @@ module _ (job j xs : List ℕ) (p q : ℕ) (same : j ≡ job) (value : Some xs �
         }
 
     pub next_bad : (r : ℕ) → false ≡ joins n.size (taken xs) → r ≡ q - 1 → FirstBad job r
-    next_bad r f e = unfit_bad job r (fit_no_more (good job) r at.each (sym (f ∙ good_next)) e)
+    next_bad r f e = fit_no_more (good job) r at.each (sym (f ∙ good_next)) e
 
 -- a job without a record, where the first record is to be N
 pub no_record : (fit : ℕ → Bool) (job j : List ℕ) (p q r : ℕ) → fit 0 ≡ opens (taken (record_at job 0)) → j ≡ job → p ≡ 0 → None ≡ handed j p → q ≡ cond (ltb p (records j)) (p + 1) p → r ≡ q - 1 → FirstUnfit fit (records job) r
@@ -222,4 +210,4 @@ unfit_index fit job (Record k) r i q = let e : k ≡ i = cc in let l = length_ok
     few (inr h) = let e : k ≡ i = cc in let z = h.0 in omega arith
 
 pub refused_index : (job : List ℕ) (e : Refusal) → Refused job e → (i : ℕ) → (entry e).index ≡ Some i → i < 10000
-refused_index job e r i q = unfit_index (good job) job e (refused_unfit job e r) i q
+refused_index job e r i q = unfit_index (good job) job e r i q

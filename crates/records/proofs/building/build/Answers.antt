@@ -1,16 +1,15 @@
 use Rattle.std.proofs.Common.{sym, refl}
 use Rattle.map.specs.View.{net}
 use Rattle.records.specs.Build.{good}
-use Rattle.records.proofs.Fronts.{unfit_bad, no_record, first_good, first_bad, next_good, next_bad, all_good}
+use Rattle.records.proofs.Fronts.{no_record, first_good, first_bad, next_good, next_bad, all_good}
 use Rattle.records.proofs.building.build.Goals as goal
 
 pub returns-in_default : goal.returns-in_default
 returns-in_default c =
     let k = c.in_default.ensures in (
       sym c.in_ok-check_length.ensures,
-      unfit_bad c.args.job.now c.index.result
-          (no_record (good c.args.job.now) c.args.job.now c.new-reader.result.job.now c.new-reader.result.place c.next.new.self.place c.index.result
-          refl c.new-reader.ensures.job c.new-reader.ensures.place k.value k.place c.index.ensures),
+      no_record (good c.args.job.now) c.args.job.now c.new-reader.result.job.now c.new-reader.result.place c.next.new.self.place c.index.result
+          refl c.new-reader.ensures.job c.new-reader.ensures.place k.value k.place c.index.ensures,
     )
 
 pub returns-in_default-opened : goal.returns-in_default-opened
