@@ -1,16 +1,20 @@
 -- The front of a job: what its first records make, record by record.
-use Rattle.std.proofs.Common.{◌≡◌, ℕ, zero, suc, ◌+◌, ◌-◌, ◌*◌, ◌%◌, ◌<◌, ◌≤◌, Bool, true, false, cond, ◌&&◌, ◌||◌, eqb, ltb, leb, ◌⊎◌, List, length, get_or, drop, Some, None, Ok, Err, Result, sym, refl, ap, ◌∙◌, ap₂, inl, inr, arith, length-take, get_or-drop, get_or-take}
+use Rattle.std.proofs.Common.{◌≡◌, ℕ, zero, suc, ◌+◌, ◌-◌, ◌*◌, ◌%◌, ◌<◌, ◌≤◌, Bool, true, false, cond, ◌&&◌, ◌||◌, eqb, ltb, leb, ◌⊎◌, List, length, get_or, drop, Some, None, Ok, Err, Option, Result, MatchOption, sym, refl, ap, ◌∙◌, ap₂, inl, inr, arith, length-take, get_or-drop, get_or-take}
 use mathlib.Core.Path.{fun_ext}
+use denote.Ref.{Bor}
 use Rattle.std.proofs.lemmas.Bool.{leb-true, ltb-true, ltb-false, lt-ltb, le-ltb, ne_eqb, cases_Bool, cases_eq}
 use Rattle.marks.specs.Below.{some_below}
 use Rattle.refusal.specs.declared.Refusal.{Refusal}
 use Rattle.refusal.specs.declared.Refusal.TheVariants.{Short, Count, Node, SelfLink, Twice, Missing, Unlinked, Settled, Busy, Spent, Quiet, Foreign, Torn, Record}
 use Rattle.refusal.specs.Entry.{entry}
-use Rattle.map.specs.View.{Net}
+use Rattle.map.specs.View.{Net, net}
 use Rattle.map.specs.Calls.{bare, linked_up}
+use Rattle.map.specs.declared.Map.{Map}
+use Rattle.records.specs.declared.reading.Reader.{Reader}
 use Rattle.records.specs.Fields.{length_rule, records, record_at, handed, taken, number_of}
 use Rattle.records.specs.Build.{opens, joins, byte, count_in, good, names, front, described, FirstBad, AllGood, Refused}
 use Rattle.records.specs.Fits.{FirstUnfit, RefusedFor}
+use Rattle.records.specs.Reading.{Hands}
 
 -- a job that is not too long
 pub length_ok : (n : ℕ) → length_rule n ≡ Ok tt → n ≤ 32768
@@ -176,6 +180,19 @@ no_record fit job j p q r first same z value place e =
     short = ap (λ (b : Bool). opens (cond (b && eqb (get_or (record_at job 0) 3 0) 0)
         (Some (record { letter = get_or (record_at job 0) 0 0; first = get_or (record_at job 0) 1 0; second = get_or (record_at job 0) 2 0; number = number_of (record_at job 0) })) None))
         (ne_eqb (length (record_at job 0)) 8 few)
+
+-- the first answer r of a reader's `next`, and the map o that its record opens, if there is one and it is N
+abbrev pub OpenedBy : Option (Bor (List ℕ)) → Option Map → Type 0
+OpenedBy r o = MatchOption r (o ≡ None) (λ x. MatchOption o (opens (taken x.now) ≡ false) (λ m. (opens (taken x.now) ≡ true) × (net m ≡ bare (get_or x.now 1 0))))
+
+module _ (job : List ℕ) (s t : Reader) (same : s.job.now ≡ job) (start : s.place ≡ 0) where
+  pub opening : (r : Option (Bor (List ℕ))) (m : Map) → Hands s r t → OpenedBy r (Some m) → Reached job t.job.now t.place (net m)
+  opening None m h o = absurd (let z : ◌≡◌ {A = ℕ} 0 1 = cc in omega arith)
+  opening (Some x) m h o = first_good job s.job.now x.now s.place t.place same h.value h.place t.job.now (net m) h.job start o.0 o.1
+
+  pub unopened : (r : Option (Bor (List ℕ))) → Hands s r t → OpenedBy r None → FirstBad job (t.place - 1)
+  unopened None h o = no_record (good job) job s.job.now s.place t.place (t.place - 1) refl same start h.value h.place refl
+  unopened (Some x) h o = first_bad job s.job.now x.now s.place t.place same h.value h.place (t.place - 1) start o refl
 
 -- at the last record
 
