@@ -53,6 +53,7 @@ pub fn build(job: &[u8]) -> Result<Map, Refusal>
         .next()
         .and_then(opened)
         .ok_or(Refusal::Record(reader.index()))?;
+    // No `for`: it would hold the reader, which is asked for the index.
     while let Some(record) = reader.next() {
         joined(&mut map, record).ok_or(Refusal::Record(reader.index()))?;
     }

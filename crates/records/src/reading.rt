@@ -28,6 +28,7 @@ pub struct Reader<'a> {
     job: &'a [u8],
     /// How many records have been handed out.
     place: usize,
+    // It stands no further than after the last whole record.
     pub ghost inside: { place ≤ records job.now },
 }
 
