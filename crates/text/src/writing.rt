@@ -1,6 +1,6 @@
 //! Writing to a text.
 ghost use Rattle.std.specs.Prelude.{◌≡◌, [], ◌∷◌, ◌++◌, decimal};
-ghost use Rattle.text.specs.Written.{clip, line_end, refused_line, spaced, written};
+ghost use Rattle.text.specs.Written.{clip, line_end, refused_line, row_line, spaced, table, written};
 
 use crate::Text;
 use bounded::Bounded;
@@ -64,6 +64,25 @@ impl Text {
     {
         self.push_numbers(numbers);
         self.push(b'\n');
+    }
+
+    /// Writes a line of numbers, one space between two; of no numbers nothing.
+    pub fn push_row(&mut self, numbers: &[usize])
+        ensures { written self.new ≡ clip (written self.old ++ row_line numbers.now) }
+    {
+        if let Some((first, rest)) = numbers.split_first() {
+            self.push_number(*first);
+            self.end_line(rest);
+        }
+    }
+
+    /// Writes a line for each row, in order.
+    pub fn push_rows<const N: usize>(&mut self, rows: &[[usize; N]])
+        ensures { written self.new ≡ clip (written self.old ++ table rows.now) }
+    {
+        for row in rows {
+            self.push_row(row);
+        }
     }
 
     /// The text of a refusal: its line.
