@@ -42,11 +42,11 @@ pub fn check<C: ClashRule>(rule: &C, slots: &[u16]) -> Result<Verdict, Refusal>
     }
     let table = &slots[..count];
     let mut largest = 0;
-    for a in 0..count {
+    for (a, slot) in table.iter().enumerate() {
         if let Some(b) = partner(rule, table, a) {
             return Ok(Verdict::Clash((a as u16, b as u16)));
         }
-        largest = largest.max(table[a]);
+        largest = largest.max(*slot);
     }
     Ok(Verdict::Accepted(largest))
 }

@@ -11,7 +11,9 @@ fn repeats<I: Copy + Into<usize>>(order: &[I], place: usize) -> bool
     ensures { (number : I → ℕ) → Numbers I.converts number → Decides result (Repeats (map number order.now) place) }
 {
     let item = order[place].into();
-    order[..place].iter().any(|earlier| (*earlier).into() == item)
+    order[..place]
+        .iter()
+        .any(|earlier| (*earlier).into() == item)
 }
 
 /// Whether each entry of an order is an item below the count, and none repeats. The entries may be

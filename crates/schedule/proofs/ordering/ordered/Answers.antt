@@ -1,4 +1,4 @@
-use Rattle.std.proofs.Common.{◌≡◌, ℕ, length, map, get_or, ap, sym, ◌∙◌, arith, below_more}
+use Rattle.std.proofs.Common.{ap, sym, ◌∙◌, arith, below_more}
 use Rattle.std.proofs.lemmas.Bool.Decides.{not_from_Decides}
 use Rattle.std.proofs.lemmas.List.{get_or-map, length-map}
 use Rattle.schedule.proofs.ordering.ordered.Goals as goal

@@ -1,4 +1,4 @@
-use Rattle.std.proofs.Common.{◌≡◌, ℕ, map}
+use Rattle.std.proofs.Common.{ℕ, map}
 use Rattle.schedule.specs.Order.{Numbers}
 use Rattle.schedule.specs.Rand.{FineTo}
 use Rattle.schedule.proofs.ordering.ordered.Given as goal

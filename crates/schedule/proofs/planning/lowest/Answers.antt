@@ -1,5 +1,4 @@
-use Rattle.std.proofs.Common.{rules, tests, true, false, ap, sym, ◌∙◌, length, ◌≡◌, ℕ, ◌+◌, arith}
-use Rattle.std.specs.Option.{unwrap_or}
+use Rattle.std.proofs.Common.{rules, tests, true, false, ◌∙◌, length, ◌≡◌, arith}
 use Rattle.std.proofs.lemmas.Iterator.{first_from_Range}
 use Rattle.schedule.specs.Rand.{holds}
 use Rattle.schedule.specs.Order.{entries}
@@ -13,5 +12,5 @@ returns g c =
     let f = entries c.args.slots.now in
     c.unwrap_or.ensures
     ∙ least_search clash n f c.args.a c.MOST.result (omega (arith, c.MOST.ensures, c.requires.few.0)) c.find.result
-        (first_from_Range _ _ _ c.find.result (λ s. holds clash n f c.args.a s ≡ false) (λ s. holds clash n f c.args.a s ≡ true)
-        c.find.ensures.ran (λ x q k. search (rules, tests)) (λ x q k. search (rules, tests)))
+    (first_from_Range _ _ _ c.find.result (λ s. holds clash n f c.args.a s ≡ false) (λ s. holds clash n f c.args.a s ≡ true)
+    c.find.ensures.ran (λ x q k. search (rules, tests)) (λ x q k. search (rules, tests)))

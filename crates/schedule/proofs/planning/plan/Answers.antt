@@ -1,7 +1,6 @@
 use Rattle.std.proofs.Common.{◌≡◌, ℕ, ◌<◌, ◌≤◌, List, ◌++◌, length, get_or, drop, Ok, ap, ◌∙◌, arith, take_all, Err, rules}
 use Rattle.std.proofs.lemmas.List.{get_or_append_left, length-append}
 use Rattle.schedule.specs.Rand.{rand, Fine}
-use Rattle.schedule.specs.Order.{Planned}
 use Rattle.schedule.proofs.Accept.{rand_accepted}
 use Rattle.schedule.proofs.Rand.{rand_law}
 use Rattle.schedule.proofs.Repeated.{of_numbers}
@@ -46,8 +45,8 @@ returns g c =
     let fine : Fine n order = λ j l. let f = ordered j l in (omega (arith, f.0), f.1) in
     let is : (k : ℕ) → k < n → get_or slots k 0 ≡ rand clash n order k
     = λ k l.
-        get_or_append_left table (drop count before) 0 k (omega (arith, c.loop-item.invariant.0)) ∙ c.loop-item.invariant.1 k (omega arith)
-        ∙ ap (λ (xs : List ℕ). rand clash count xs k) whole ∙ ap (λ (m : ℕ). rand clash m order k) e in
+    get_or_append_left table (drop count before) 0 k (omega (arith, c.loop-item.invariant.0)) ∙ c.loop-item.invariant.1 k (omega arith)
+    ∙ ap (λ (xs : List ℕ). rand clash count xs k) whole ∙ ap (λ (m : ℕ). rand clash m order k) e in
     let long : n ≤ length slots = omega (arith, length-append table (drop count before), c.loop-item.invariant.0) in
     let relation = table_is clash n order slots fine is in
     record {
