@@ -10,18 +10,11 @@ pub trait ClashRule {
     /// The most items that a map can have under this rule.
     const MOST: usize;
 
-    // What `MOST` is, for clauses, which cannot cite it.
-    ghost most: { ℕ };
+    ghost MOST: { ℕ };
 
     ghost items: { Self → ℕ };
 
     ghost clash: { Self → ℕ → ℕ → Bool };
-
-    ghost laws: { Laws items clash most };
-
-    /// `MOST`, where a proof has to know it.
-    fn limit() -> usize
-        ensures { result ≡ most };
 
     /// The number of items.
     fn count(&self) -> usize
@@ -30,12 +23,14 @@ pub trait ClashRule {
     /// Whether items `a` and `b` clash.
     fn clashes(&self, a: usize, b: usize) -> bool
         ensures { result ≡ clash self.now a b };
+
+    ghost laws: { Laws items clash MOST };
 }
 
 // The number of items, which the rule's limit bounds.
 pub(crate) fn bounded<C: ClashRule>(rule: &C) -> usize
     ensures value { result ≡ C.items rule.now }
-    ensures bound { (result ≤ C.most) × (result ≤ 512) }
+    ensures bound { (result ≤ C.MOST) × (C.MOST ≤ 512) }
 {
-    rule.count().min(C::limit())
+    rule.count()
 }
