@@ -1,3 +1,4 @@
+pub mod Kinds
 pub mod Ways
 pub mod Waiting
 pub mod Queue

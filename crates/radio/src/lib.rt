@@ -7,11 +7,13 @@
 mod air;
 mod coin;
 mod interface;
+mod kind;
 mod message;
 mod queue;
 
 pub use coin::CoinRadio;
 pub use coin::calls::step;
 pub use interface::{Radio, put_all};
+pub use kind::{Kind, UnknownKind};
 pub use message::Message;
 pub use queue::RackQueue;

@@ -4,7 +4,7 @@ use marks::Marks;
 /// A message from one node to another. Fields that its kind does not use are 0.
 #[derive(Clone, Copy)]
 pub struct Message {
-    /// 1 request, 2 grant, 3 reject, 4 release, 5 fail. Any other number can be held.
+    /// The number of its `Kind`. A byte and no `Kind`, since a radio may hold any, and a rig refuses an unknown one.
     pub kind: u8,
     /// The node that sent it.
     pub sender: u8,

@@ -3,12 +3,12 @@ ghost use Rattle.radio.specs.Ways.{Ways};
 ghost use Rattle.std.proofs.Common.{rules};
 
 use marks::Marks;
-use radio::{CoinRadio, Message, RackQueue, Radio, put_all, step};
+use radio::{CoinRadio, Kind, Message, RackQueue, Radio, put_all, step};
 
 // A message that is told from others by its round.
 fn numbered(round: u16) -> Message {
     Message {
-        kind: 1,
+        kind: Kind::Request.into(),
         sender: 0,
         receiver: 1,
         round,

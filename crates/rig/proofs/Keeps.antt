@@ -6,6 +6,7 @@ use Rattle.marks.specs.Below.{some_below}
 use Rattle.refusal.specs.declared.Refusal.{Refusal}
 use Rattle.map.specs.declared.Map.{Map}
 use Rattle.map.specs.View.{nodes, linked}
+use Rattle.radio.specs.declared.kind.Kind.{Kind}
 use Rattle.radio.specs.declared.message.Message.{Message}
 use Rattle.rig.specs.declared.node.Node.{Node}
 use Rattle.rig.specs.declared.node.Phase.{Phase}
@@ -126,8 +127,8 @@ module _ (m : Map) where
   -- deliver
 
   module _ (b : Board) (calm : Calm b) (x : Message) where
-    same : (out : List Message) (kind : ℕ) → Steady b x.receiver (sends m b out kind)
-    same out kind = steady_ok b b x.receiver out kind (none_touched b x.receiver)
+    same : (out : List Message) (kind : Kind) → Steady b x.receiver (sends m b out kind)
+    same out kind = steady_ok b b x.receiver out (Some kind) (none_touched b x.receiver)
 
     granting_steady : Steady b x.receiver (granting m b x)
     granting_steady = steady_ok b _ x.receiver _ _ (one_touched b x.receiver (bound (at b x.receiver) x.sender x.round) (λ _. refl) (omega arith))
@@ -188,7 +189,7 @@ module _ {S : Type 0} (w : Ways S) (m : Map) (b b' : Board) (s s' : S) where
   pub drawn_lawful : (k v : ℕ) (r : Result Lottery Refusal) → b' ≡ (drawn m b k v).board → s' ≡ puts w s (drawn m b k v).sent → r ≡ (drawn m b k v).answer → Lawful b b' s s' k r
   drawn_lawful k v r = done w b b' s s' k r (drawn m b k v) (drawn_steady m b k v)
 
-  pub delivered_lawful : Calm b → (o : Option Message) (r : Result ℕ Refusal) → b' ≡ (delivered m b o).board → s' ≡ puts w s (delivered m b o).sent → r ≡ (delivered m b o).answer → LawfulDelivery b b' s s' o r
+  pub delivered_lawful : Calm b → (o : Option Message) (r : Result (Option Kind) Refusal) → b' ≡ (delivered m b o).board → s' ≡ puts w s (delivered m b o).sent → r ≡ (delivered m b o).answer → LawfulDelivery b b' s s' o r
   delivered_lawful calm None r p q v = (p, q)
   delivered_lawful calm (Some x) r p q v = done w b b' s s' x.receiver r (received m b x) (received_steady m b calm x) p q v
 

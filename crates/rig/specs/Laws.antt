@@ -1,6 +1,7 @@
 -- What every call keeps, in the subject's words.
 use Rattle.std.specs.Prelude.{◌≡◌, ℕ, ◌≤◌, Some, None, Err, Option, Result, ◌≢◌}
 use Rattle.refusal.specs.declared.Refusal.{Refusal}
+use Rattle.radio.specs.declared.kind.Kind.{Kind}
 use Rattle.radio.specs.declared.message.Message.{Message}
 use Rattle.rig.specs.Calm.{at}
 use Rattle.rig.specs.Board.{Board}
@@ -22,6 +23,6 @@ pub record Lawful {A S : Type 0} (b b' : Board) (s s' : S) (n : ℕ) (r : Result
   pub refusal : (e : Refusal) → r ≡ Err e → (b' ≡ b) × (s' ≡ s)
 
 -- a delivery of what was taken, from the radio as the taking left it: lawful at the message's receiver; where nothing came, nothing changes
-abbrev pub LawfulDelivery : {S : Type 0} → Board → Board → S → S → Option Message → Result ℕ Refusal → Type 0
+abbrev pub LawfulDelivery : {S : Type 0} → Board → Board → S → S → Option Message → Result (Option Kind) Refusal → Type 0
 LawfulDelivery b b' s s' None r = (b' ≡ b) × (s' ≡ s)
 LawfulDelivery b b' s s' (Some x) r = Lawful b b' s s' x.receiver r

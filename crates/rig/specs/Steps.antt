@@ -1,5 +1,5 @@
 -- What each call answers, what it makes of the nodes, and what it sends, in order.
-use Rattle.std.specs.Prelude.{ℕ, suc, ◌+◌, ◌-◌, ◌/◌, ◌%◌, Bool, cond, not, ◌&&◌, ◌||◌, List, [], ◌∷◌, length, Some, None, Ok, Err, Option, Result, ◌==◌, nat_lt}
+use Rattle.std.specs.Prelude.{◌≡◌, ℕ, false, true, MatchResult, suc, ◌+◌, ◌-◌, ◌/◌, ◌%◌, Bool, cond, not, ◌&&◌, ◌||◌, List, [], ◌∷◌, length, Some, None, Ok, Err, Option, Result, ◌==◌, nat_lt}
 use Rattle.marks.specs.declared.Marks.{Marks}
 use Rattle.marks.specs.Below.{some_below}
 use Rattle.marks.specs.Sets.{none, added, joined}
@@ -8,7 +8,10 @@ use Rattle.refusal.specs.declared.Refusal.{Refusal}
 use Rattle.refusal.specs.declared.Refusal.TheVariants.{Node as NoNode, Settled, Busy, Spent, Quiet, Foreign}
 use Rattle.map.specs.declared.Map.{Map}
 use Rattle.map.specs.View.{nodes, linked, contender_count}
+use Rattle.radio.specs.declared.kind.Kind.{Kind}
+use Rattle.radio.specs.declared.kind.Kind.TheVariants.{Request as RequestKind, Grant as GrantKind, Reject as RejectKind, Release as ReleaseKind, Fail as FailKind}
 use Rattle.radio.specs.declared.message.Message.{Message}
+use Rattle.radio.specs.Kinds.{kind_number}
 use Rattle.schedule.specs.Rand.{first_from}
 use Rattle.rig.specs.declared.node.Node.{Node}
 use Rattle.rig.specs.declared.node.Phase.{Phase}
@@ -173,8 +176,13 @@ module _ (m : Map) where
       (x.kind == 0 || nat_lt 5 x.kind)
       || (not (linked m x.sender x.receiver) || (x.kind == 4 && (x.slot == 0 || nat_lt 64 x.slot)))
 
-  abbrev pub sends : Board → List Message → ℕ → After ℕ
-  sends b out kind = record { board = b; sent = out; answer = Ok kind }
+  -- the kind of a message that is not foreign, or else Foreign
+  abbrev pub Sorts : Message → Result Kind Refusal → Type 0
+  Sorts x r = MatchResult r (λ kind. (kind_number kind ≡ x.kind) × (foreign x ≡ false)) (λ e. (e ≡ Foreign) × (foreign x ≡ true))
+
+  -- what a message of this kind makes: these nodes, these messages, and the kind as the answer
+  abbrev pub sends : Board → List Message → Kind → After (Option Kind)
+  sends b out kind = record { board = b; sent = out; answer = Ok (Some kind) }
 
   -- the receiver's grant to the sender, and its reject
   abbrev pub grant_to : Board → Message → Message
@@ -183,14 +191,14 @@ module _ (m : Map) where
   abbrev pub reject_to : Message → Message
   reject_to x = reject x.round x.receiver x.sender
 
-  abbrev pub granting : Board → Message → After ℕ
-  granting b x = sends (put b x.receiver (bound (at b x.receiver) x.sender x.round)) (grant_to b x ∷ []) 1
+  abbrev pub granting : Board → Message → After (Option Kind)
+  granting b x = sends (put b x.receiver (bound (at b x.receiver) x.sender x.round)) (grant_to b x ∷ []) RequestKind
 
   -- idle or in release: goes to grant; in grant for just this: grants again; else rejects
-  abbrev pub on_request : Board → Message → Phase → After ℕ
+  abbrev pub on_request : Board → Message → Phase → After (Option Kind)
   on_request b x Idle = granting b x
-  on_request b x Request = sends b (reject_to x ∷ []) 1
-  on_request b x Grant = cond (serves (at b x.receiver) x.sender x.round) (sends b (grant_to b x ∷ []) 1) (sends b (reject_to x ∷ []) 1)
+  on_request b x Request = sends b (reject_to x ∷ []) RequestKind
+  on_request b x Grant = cond (serves (at b x.receiver) x.sender x.round) (sends b (grant_to b x ∷ []) RequestKind) (sends b (reject_to x ∷ []) RequestKind)
   on_request b x Release = granting b x
 
   -- all neighbours of k are marked
@@ -201,17 +209,17 @@ module _ (m : Map) where
   counts b x = put b x.receiver (counted (at b x.receiver) x.sender x.slots)
 
   -- counted in the present round, and decides once all are marked; else a release if it decided in that round; else a fail
-  abbrev pub on_grant : Board → Message → After ℕ
+  abbrev pub on_grant : Board → Message → After (Option Kind)
   on_grant b x =
       cond (waits (at b x.receiver) x.round)
-      (cond (complete (counts b x) x.receiver) (sends (settled (counts b x) x.receiver) (settled_sent (counts b x) x.receiver) 2) (sends (counts b x) [] 2))
+      (cond (complete (counts b x) x.receiver) (sends (settled (counts b x) x.receiver) (settled_sent (counts b x) x.receiver) GrantKind) (sends (counts b x) [] GrantKind))
       (cond (not ((at b x.receiver).slot == 0) && (at b x.receiver).dated == x.round)
-      (sends b (release (at b x.receiver).slot x.round x.receiver x.sender ∷ []) 2)
-      (sends b (fail x.round x.receiver x.sender ∷ []) 2))
+      (sends b (release (at b x.receiver).slot x.round x.receiver x.sender ∷ []) GrantKind)
+      (sends b (fail x.round x.receiver x.sender ∷ []) GrantKind))
 
   -- gives up in the present round; else dropped
-  abbrev pub on_reject : Board → Message → After ℕ
-  on_reject b x = cond (waits (at b x.receiver) x.round) (sends (gave_up b x.receiver) (fail_all b x.receiver) 3) (sends b [] 3)
+  abbrev pub on_reject : Board → Message → After (Option Kind)
+  on_reject b x = cond (waits (at b x.receiver) x.round) (sends (gave_up b x.receiver) (fail_all b x.receiver) RejectKind) (sends b [] RejectKind)
 
   -- freed where it is in grant for just this sender and round
   abbrev pub frees : Board → Message → Board
@@ -221,15 +229,15 @@ module _ (m : Map) where
   hears b x = put b x.receiver (hearing (at b x.receiver) x.slot)
 
   -- a foreign message is refused by 12; any other by its kind
-  abbrev pub received : Board → Message → After ℕ
+  abbrev pub received : Board → Message → After (Option Kind)
   received b x =
       cond (foreign x) (refused b Foreign)
       (cond (x.kind == 1) (on_request b x (at b x.receiver).phase)
       (cond (x.kind == 2) (on_grant b x)
       (cond (x.kind == 3) (on_reject b x)
-      (cond (x.kind == 4) (sends (frees (hears b x) x) [] 4) (sends (frees b x) [] 5)))))
+      (cond (x.kind == 4) (sends (frees (hears b x) x) [] ReleaseKind) (sends (frees b x) [] FailKind)))))
 
-  -- 0 where nothing came
-  abbrev pub delivered : Board → Option Message → After ℕ
-  delivered b None = sends b [] 0
+  -- no kind where nothing came
+  abbrev pub delivered : Board → Option Message → After (Option Kind)
+  delivered b None = record { board = b; sent = []; answer = Ok None }
   delivered b (Some x) = received b x

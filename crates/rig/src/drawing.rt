@@ -11,7 +11,7 @@ ghost use Rattle.rig.specs.Steps.{asked_again, drawn, lottery_number, nudged, wi
 use crate::sending::{send, send_grant, send_to_all};
 use crate::{Lottery, Phase, Rig};
 use marks::Marks;
-use radio::Radio;
+use radio::{Kind, Radio};
 use refusal::Refusal;
 
 impl Lottery {
@@ -62,7 +62,7 @@ impl Rig {
         node.taken = Marks::empty();
         self.nodes[k as usize] = node;
         if self.has_neighbours(k) {
-            send_to_all(radio, &self.map, 1, node.round, 0, k);
+            send_to_all(radio, &self.map, Kind::Request, node.round, 0, k);
             Ok(Lottery::Asked)
         } else {
             self.settle(k, radio);
@@ -113,7 +113,7 @@ impl Rig {
         for j in 0..self.map.count() {
             let open = self.map.linked(k, j) && !node.granted.has(j);
             if open {
-                send(radio, 1, node.round, 0, k, j);
+                send(radio, Kind::Request, node.round, 0, k, j);
                 sent += 1;
             }
         }

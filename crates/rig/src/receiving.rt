@@ -4,11 +4,11 @@ ghost use Rattle.map.specs.View.{nodes};
 ghost use Rattle.rig.specs.Calm.{at};
 ghost use Rattle.rig.specs.Laws.{LawfulDelivery};
 ghost use Rattle.rig.specs.Made.{Made};
-ghost use Rattle.rig.specs.Steps.{complete, delivered, foreign, frees, hears, on_grant, on_reject, on_request, received, serves, waits};
+ghost use Rattle.rig.specs.Steps.{Sorts, complete, delivered, frees, hears, on_grant, on_reject, on_request, received, serves, waits};
 
 use crate::sending::{send, send_grant};
 use crate::{Node, Phase, Rig};
-use radio::{Message, Radio};
+use radio::{Kind, Message, Radio};
 use refusal::Refusal;
 
 // Whether a node is in request, and the round is its own.
@@ -46,12 +46,12 @@ impl Rig {
                 self.nodes[x.receiver as usize] = bound;
                 send_grant(radio, node, x.round, x.receiver, x.sender);
             }
-            Phase::Request => send(radio, 3, x.round, 0, x.receiver, x.sender),
+            Phase::Request => send(radio, Kind::Reject, x.round, 0, x.receiver, x.sender),
             Phase::Grant => {
                 if serves_in(node, x.sender, x.round) {
                     send_grant(radio, node, x.round, x.receiver, x.sender);
                 } else {
-                    send(radio, 3, x.round, 0, x.receiver, x.sender);
+                    send(radio, Kind::Reject, x.round, 0, x.receiver, x.sender);
                 }
             }
         }
@@ -85,9 +85,16 @@ impl Rig {
                 self.settle(x.receiver, radio);
             }
         } else if node.slot != 0 && node.dated == x.round {
-            send(radio, 4, x.round, node.slot, x.receiver, x.sender);
+            send(
+                radio,
+                Kind::Release,
+                x.round,
+                node.slot,
+                x.receiver,
+                x.sender,
+            );
         } else {
-            send(radio, 5, x.round, 0, x.receiver, x.sender);
+            send(radio, Kind::Fail, x.round, 0, x.receiver, x.sender);
         }
     }
 
@@ -129,48 +136,51 @@ impl Rig {
         self.nodes[x.receiver as usize] = node;
     }
 
-    fn is_foreign(&self, x: Message) -> bool
-        ensures { result ≡ foreign self.now.map x }
+    // The kind of a message that its receiver can act on; refuses any other by `Foreign`.
+    fn kind(&self, x: Message) -> Result<Kind, Refusal>
+        ensures { Sorts self.now.map x result }
     {
-        x.kind == 0
-            || x.kind > 5
-            || !self.map.linked(x.sender, x.receiver)
-            || x.kind == 4 && (x.slot == 0 || x.slot > 64)
+        let Ok(kind) = Kind::try_from(x.kind) else {
+            return Err(Refusal::Foreign);
+        };
+        let no_slot = kind == Kind::Release && (x.slot == 0 || x.slot > 64);
+        if no_slot || !self.map.linked(x.sender, x.receiver) {
+            return Err(Refusal::Foreign);
+        }
+        Ok(kind)
     }
 
-    fn receive<R: Radio>(&mut self, x: Message, radio: &mut R) -> Result<u8, Refusal>
+    fn receive<R: Radio>(&mut self, x: Message, radio: &mut R) -> Result<Option<Kind>, Refusal>
         ensures made { Made R.ways self.old self.new (R.state radio.old) (R.state radio.new) (received self.old.map self.old.nodes x).board (received self.old.map self.old.nodes x).sent }
         ensures value { result ≡ (received self.old.map self.old.nodes x).answer }
     {
-        if self.is_foreign(x) {
-            return Err(Refusal::Foreign);
-        }
-        match x.kind {
-            1 => self.on_request(x, radio),
-            2 => self.on_grant(x, radio),
-            3 => self.on_reject(x, radio),
-            4 => {
+        let kind = self.kind(x)?;
+        match kind {
+            Kind::Request => self.on_request(x, radio),
+            Kind::Grant => self.on_grant(x, radio),
+            Kind::Reject => self.on_reject(x, radio),
+            Kind::Release => {
                 self.hear(x);
                 self.free(x);
             }
-            _ => self.free(x),
+            Kind::Fail => self.free(x),
         }
-        Ok(x.kind)
+        Ok(Some(kind))
     }
 
-    /// Takes one message from the radio and lets its receiver act on it. Answers 0 if nothing came,
-    /// else the message's kind.
+    /// Takes one message from the radio and lets its receiver act on it. Answers the message's kind,
+    /// or `None` if nothing came.
     ///
-    /// Refuses `Foreign` if the kind is not 1 to 5, the ends are no neighbours, or it is a release of
+    /// Refuses `Foreign` if the kind is unknown, the ends are no neighbours, or it is a release of
     /// a slot not 1 to 64; the message has been taken then, and the rig stays.
-    pub fn deliver<R: Radio>(&mut self, radio: &mut R) -> Result<u8, Refusal>
+    pub fn deliver<R: Radio>(&mut self, radio: &mut R) -> Result<Option<Kind>, Refusal>
         ensures made { Made R.ways self.old self.new (R.ways.after_take (R.state radio.old)) (R.state radio.new) (delivered self.old.map self.old.nodes (R.ways.taken (R.state radio.old))).board (delivered self.old.map self.old.nodes (R.ways.taken (R.state radio.old))).sent }
         ensures value { result ≡ (delivered self.old.map self.old.nodes (R.ways.taken (R.state radio.old))).answer }
         ensures lawful { LawfulDelivery self.old.nodes self.new.nodes (R.ways.after_take (R.state radio.old)) (R.state radio.new) (R.ways.taken (R.state radio.old)) result }
     {
         match radio.take() {
             Some(x) => self.receive(x, radio),
-            None => Ok(0),
+            None => Ok(None),
         }
     }
 }

@@ -1,6 +1,7 @@
 //! Sending to one node, and to all neighbours.
 ghost use Rattle.std.specs.Prelude.{◌≡◌};
 ghost use Rattle.map.specs.View.{linked, nodes};
+ghost use Rattle.radio.specs.Kinds.{kind_number};
 ghost use Rattle.radio.specs.Ways.{puts};
 ghost use Rattle.rig.specs.Board.{each};
 ghost use Rattle.rig.specs.Steps.{grant, offered, plain};
@@ -8,22 +9,22 @@ ghost use Rattle.rig.specs.Steps.{grant, offered, plain};
 use crate::Node;
 use map::Map;
 use marks::Marks;
-use radio::{Message, Radio};
+use radio::{Kind, Message, Radio};
 
 // A message without a set.
 pub(crate) fn send<R: Radio>(
     radio: &mut R,
-    kind: u8,
+    kind: Kind,
     round: u16,
     slot: u8,
     sender: u8,
     receiver: u8,
 )
-    ensures { R.state radio.new ≡ R.ways.after_put (R.state radio.old) (plain kind round slot sender receiver) }
+    ensures { R.state radio.new ≡ R.ways.after_put (R.state radio.old) (plain (kind_number kind) round slot sender receiver) }
 {
     let slots = Marks::empty();
     radio.put(Message {
-        kind,
+        kind: u8::from(kind),
         sender,
         receiver,
         round,
@@ -49,7 +50,7 @@ pub(crate) fn send_grant<R: Radio>(radio: &mut R, node: Node, round: u16, sender
 {
     let slots = offer(node);
     radio.put(Message {
-        kind: 2,
+        kind: u8::from(Kind::Grant),
         sender,
         receiver,
         round,
@@ -62,12 +63,12 @@ pub(crate) fn send_grant<R: Radio>(radio: &mut R, node: Node, round: u16, sender
 pub(crate) fn send_to_all<R: Radio>(
     radio: &mut R,
     map: &Map,
-    kind: u8,
+    kind: Kind,
     round: u16,
     slot: u8,
     sender: u8,
 )
-    ensures { R.state radio.new ≡ puts R.ways (R.state radio.old) (each (linked map.now sender) (plain kind round slot sender) (nodes map.now)) }
+    ensures { R.state radio.new ≡ puts R.ways (R.state radio.old) (each (linked map.now sender) (plain (kind_number kind) round slot sender) (nodes map.now)) }
 {
     for j in 0..map.count() {
         if map.linked(sender, j) {

@@ -7,7 +7,7 @@ ghost use Rattle.rig.specs.Steps.{fail_all, gave_up, settled, settled_sent};
 
 use crate::sending::send_to_all;
 use crate::{Phase, Rig};
-use radio::Radio;
+use radio::{Kind, Radio};
 
 impl Rig {
     /// Node `k` gives its round up.
@@ -18,7 +18,7 @@ impl Rig {
         let mut node = self.nodes[k as usize];
         node.phase = Phase::Idle;
         self.nodes[k as usize] = node;
-        send_to_all(radio, &self.map, 5, node.round, 0, k);
+        send_to_all(radio, &self.map, Kind::Fail, node.round, 0, k);
     }
 
     // How many nodes have decided.
@@ -48,7 +48,7 @@ impl Rig {
                 node.turn = turn;
                 node.dated = node.round;
                 self.nodes[k as usize] = node;
-                send_to_all(radio, &self.map, 4, node.round, mark + 1, k);
+                send_to_all(radio, &self.map, Kind::Release, node.round, mark + 1, k);
             }
             None => self.give_up(k, radio),
         }

@@ -1,6 +1,6 @@
 use map::Map;
 use marks::Marks;
-use radio::{Message, RackQueue, Radio};
+use radio::{Kind, Message, RackQueue, Radio};
 use refusal::Refusal;
 use rig::{Lottery, Phase, Rig};
 
@@ -32,6 +32,15 @@ fn drawn(answer: Result<Lottery, Refusal>) -> (u8, u8) {
 fn told(answer: Result<u8, Refusal>) -> (u8, u8) {
     match answer {
         Ok(value) => (value, 0),
+        Err(refusal) => (0, refusal.number()),
+    }
+}
+
+// The number of the kind that a delivery answers, or 0; and the number of its refusal, or 0.
+fn delivered(answer: Result<Option<Kind>, Refusal>) -> (u8, u8) {
+    match answer {
+        Ok(Some(kind)) => (kind.into(), 0),
+        Ok(None) => (0, 0),
         Err(refusal) => (0, refusal.number()),
     }
 }
@@ -70,7 +79,7 @@ fn message(kind: u8, sender: u8, receiver: u8, round: u16, slot: u8) -> Message 
 
 fn grant(sender: u8, receiver: u8, round: u16, slots: Marks) -> Message {
     Message {
-        kind: 2,
+        kind: Kind::Grant.into(),
         sender,
         receiver,
         round,
@@ -91,7 +100,7 @@ fn next(queue: &mut RackQueue) -> (u8, u8, u8, u16, u8, u8) {
 fn settle(rig: &mut Rig, queue: &mut RackQueue) -> u16 {
     let mut count = 0;
     for _ in 0..1000 {
-        if told(rig.deliver(queue)).0 != 0 {
+        if let Ok(Some(_)) = rig.deliver(queue) {
             count = u16::min(count, 999) + 1;
         }
     }
@@ -102,7 +111,7 @@ fn settle(rig: &mut Rig, queue: &mut RackQueue) -> u16 {
 fn post(rig: &mut Rig, x: Message) -> (u8, u8) {
     let mut queue = RackQueue::new();
     queue.put(x);
-    told(rig.deliver(&mut queue))
+    delivered(rig.deliver(&mut queue))
 }
 
 #[test]
@@ -206,14 +215,14 @@ fn a_late_grant(rt: HostRuntime) {
         ((1, 0, 1, 1, 0, 0), (1, 0, 1, 2, 0, 0))
     );
     queue.put(grant(1, 0, 1, Marks::empty()));
-    assert_eq!(rt; told(rig.deliver(&mut queue)), (2, 0));
+    assert_eq!(rt; delivered(rig.deliver(&mut queue)), (2, 0));
     assert_eq!(rt; (phase(&rig, 0), told(rig.slot(0))), ((1, 0), (0, 0)));
     assert_eq!(rt;
         (next(&mut queue), next(&mut queue).0),
         ((5, 0, 1, 1, 0, 0), 0)
     );
     queue.put(grant(1, 0, 2, Marks::empty().with(0)));
-    assert_eq!(rt; told(rig.deliver(&mut queue)), (2, 0));
+    assert_eq!(rt; delivered(rig.deliver(&mut queue)), (2, 0));
     assert_eq!(rt; (phase(&rig, 0), told(rig.slot(0))), ((3, 0), (2, 0)));
     assert_eq!(rt;
         (next(&mut queue), next(&mut queue).0),
@@ -222,7 +231,10 @@ fn a_late_grant(rt: HostRuntime) {
     queue.put(grant(1, 0, 2, Marks::empty()));
     queue.put(grant(1, 0, 1, Marks::empty()));
     assert_eq!(rt;
-        (told(rig.deliver(&mut queue)), told(rig.deliver(&mut queue))),
+        (
+            delivered(rig.deliver(&mut queue)),
+            delivered(rig.deliver(&mut queue))
+        ),
         ((2, 0), (2, 0))
     );
     assert_eq!(rt;
@@ -243,7 +255,7 @@ fn requests_grants_and_nudges(rt: HostRuntime) {
     queue.put(message(1, 0, 1, 8, 0));
     queue.put(message(1, 2, 1, 7, 0));
     for _ in 0..4 {
-        assert_eq!(rt; told(rig.deliver(&mut queue)), (1, 0));
+        assert_eq!(rt; delivered(rig.deliver(&mut queue)), (1, 0));
     }
     assert_eq!(rt;
         (next(&mut queue), next(&mut queue)),
@@ -297,8 +309,8 @@ fn foreign_messages(rt: HostRuntime) {
     ] {
         let mut queue = RackQueue::new();
         queue.put(x);
-        assert_eq!(rt; told(rig.deliver(&mut queue)), (0, 12));
-        assert_eq!(rt; told(rig.deliver(&mut queue)), (0, 0));
+        assert_eq!(rt; delivered(rig.deliver(&mut queue)), (0, 12));
+        assert_eq!(rt; delivered(rig.deliver(&mut queue)), (0, 0));
         assert_eq!(rt;
             (phase(&rig, 1), told(rig.nudge(1, &mut queue))),
             ((0, 0), (0, 11))
@@ -309,7 +321,7 @@ fn foreign_messages(rt: HostRuntime) {
     assert_eq!(rt; post(&mut rig, message(4, 0, 1, 1, 64)), (4, 0));
     let mut queue = RackQueue::new();
     queue.put(message(1, 0, 1, 1, 0));
-    assert_eq!(rt; told(rig.deliver(&mut queue)), (1, 0));
+    assert_eq!(rt; delivered(rig.deliver(&mut queue)), (1, 0));
     assert_eq!(rt; next(&mut queue), (2, 1, 0, 1, 0, 2));
 }
 
@@ -324,7 +336,7 @@ fn all_slots_taken(rt: HostRuntime) {
     assert_eq!(rt; drawn(rig.draw(0, 1, &mut queue)), (1, 0));
     assert_eq!(rt; next(&mut queue), (1, 0, 1, 1, 0, 0));
     queue.put(grant(1, 0, 1, all));
-    assert_eq!(rt; told(rig.deliver(&mut queue)), (2, 0));
+    assert_eq!(rt; delivered(rig.deliver(&mut queue)), (2, 0));
     assert_eq!(rt;
         (phase(&rig, 0), told(rig.slot(0)), told(rig.turn(0))),
         ((0, 0), (0, 0), (0, 0))
