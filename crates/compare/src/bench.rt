@@ -8,22 +8,25 @@ use map::Map;
 pub struct Bench {
     pub map: Map,
     pub links: Grid,
-    pub count: u8,
 }
 
-/// A bench of at least one node and at most `most`, with up to three links for each node.
-pub fn draw_bench(dice: &mut Dice, most: u8) -> Bench {
-    let count = dice.byte(most).saturating_add(1).min(64);
-    let mut map = Map::new();
-    let _ = map.open(count);
-    let mut links = Grid::new();
-    let tries = dice.below(u32::from(count) * 3);
-    for _ in 0..tries {
-        let a = dice.byte(count);
-        let b = dice.byte(count);
-        if map.link(a, b).is_ok() {
-            links.join(a as usize, b as usize);
+impl Bench {
+    /// A bench of at least one node and at most `most`, with up to three links for each node.
+    pub fn draw(dice: &mut Dice, most: u8) -> Bench {
+        let count = dice.byte(most).saturating_add(1).min(64);
+        let mut map = Map::new();
+        let _ = map.open(count);
+        let mut links = Grid::default();
+        for _ in 0..dice.below(usize::from(count) * 3) {
+            let (a, b) = (dice.byte(count), dice.byte(count));
+            if map.link(a, b).is_ok() {
+                links.join(usize::from(a), usize::from(b));
+            }
         }
+        Bench { map, links }
     }
-    Bench { map, links, count }
+
+    pub fn count(&self) -> u8 {
+        self.map.count()
+    }
 }

@@ -1,5 +1,8 @@
 //! Numbers drawn from a generator, so that a comparison can be had again.
+ghost use Rattle.std.specs.Prelude.{◌-◌, ◌≤◌};
+
 use radio::step;
+use std::alloc::{AllocError, Global};
 
 #[derive(Drop)]
 pub struct Dice {
@@ -8,23 +11,7 @@ pub struct Dice {
 
 impl Dice {
     pub fn new(seed: u32) -> Dice {
-        Dice {
-            value: if seed == 0 { 1 } else { seed },
-        }
-    }
-
-    /// A number below `bound`; 0 if that is 0.
-    pub fn below(&mut self, bound: u32) -> u32 {
-        self.value = step(self.value);
-        if bound == 0 {
-            0
-        } else {
-            self.value / 16 % bound
-        }
-    }
-
-    pub fn byte(&mut self, bound: u8) -> u8 {
-        (self.below(u32::from(bound)) & 0xff) as u8
+        Dice { value: seed.max(1) }
     }
 
     /// Any number of 32 bits.
@@ -33,20 +20,30 @@ impl Dice {
         self.value
     }
 
-    /// The numbers below `count` in an order that is drawn.
-    pub fn shuffled(&mut self, count: u8) -> [u8; 64] {
-        let mut items = [0u8; 64];
-        for i in 0..64u8 {
-            items[i as usize] = i;
+    /// A number below `bound`; 0 if that is 0.
+    pub fn below(&mut self, bound: usize) -> usize
+        ensures { result ≤ bound - 1 }
+    {
+        (self.word() as usize / 16).checked_rem(bound).unwrap_or(0)
+    }
+
+    pub fn byte(&mut self, bound: u8) -> u8 {
+        self.below(usize::from(bound)) as u8
+    }
+
+    /// Brings the items into an order that is drawn.
+    pub fn shuffle<T>(&mut self, items: &mut [T]) {
+        for i in 1..items.len() {
+            let j = self.below(i + 1);
+            items.swap(i, j);
         }
-        for i in 1..count.min(64) {
-            let j = self.byte(i.saturating_add(1));
-            if j < 64 {
-                let item = items[i as usize];
-                items[i as usize] = items[j as usize];
-                items[j as usize] = item;
-            }
-        }
-        items
+    }
+
+    /// Some of the numbers below `count`, or none, or all, in an order that is drawn.
+    pub fn order(&mut self, alloc: Global, count: usize) -> Result<Vec<u16>, AllocError> {
+        let mut items: Vec<u16> = (0u16..).take(count).collect(alloc)?;
+        self.shuffle(&mut items);
+        items.truncate(self.below(count.saturating_add(1)));
+        Ok(items)
     }
 }

@@ -1,38 +1,37 @@
 //! The drive against the planners.
-use crate::bench::{Bench, draw_bench};
+use crate::bench::Bench;
 use crate::dice::Dice;
-use crate::order::Order;
 use crate::score::Score;
 use drive::drive;
 use rules::NodeRule;
 use schedule::{ClashRule, plan};
+use std::alloc::{AllocError, Global};
 
 // Whether the slots of a drive in this order are both planners', with six deliveries for each link.
-fn agrees(bench: &Bench, nodes: &[u8; 64]) -> bool {
-    let count = bench.count as usize;
-    if count > 64 {
-        return false;
-    }
-    let order = Order::of_nodes(nodes, count);
-    let mut driven = [0u16; 64];
-    let mut planned = [0u16; 64];
-    let deliveries = match drive(&bench.map, &nodes[0..count], &mut driven) {
-        Ok(count) => count,
-        Err(_) => return false,
-    };
-    let _ = plan(&NodeRule::new(&bench.map), order.items(), &mut planned);
-    let second = bench.links.within_two().plan(order.items());
-    deliveries == 6 * u32::from(bench.map.links()) && driven == planned && driven == second
+fn agrees(alloc: Global, bench: &Bench, nodes: &[u8]) -> Result<bool, AllocError> {
+    let order: Vec<u16> = nodes.iter().map(|node| u16::from(*node)).collect(alloc)?;
+    let mut planned = [0; 64];
+    let planner = plan(&NodeRule::new(&bench.map), &order, &mut planned);
+    let second = bench.links.within_two().plan(&order);
+    let mut driven = [0; 64];
+    Ok(
+        planner.is_ok()
+            && drive(&bench.map, nodes, &mut driven).is_ok_and(|deliveries| deliveries
+                == 6 * u32::from(bench.map.links()))
+            && driven == planned
+            && driven == second,
+    )
 }
 
 /// So many maps, each driven in an order of all its nodes.
-pub fn drives(cases: u32) -> Score {
+pub fn drives(alloc: Global, cases: u32) -> Result<Score, AllocError> {
     let mut dice = Dice::new(512);
-    let mut score = Score::new();
+    let mut score = Score::default();
     for _ in 0..cases {
-        let bench = draw_bench(&mut dice, 48);
-        let nodes = dice.shuffled(bench.count);
-        score.count(agrees(&bench, &nodes));
+        let bench = Bench::draw(&mut dice, 48);
+        let mut nodes: Vec<u8> = (0..bench.count()).collect(alloc)?;
+        dice.shuffle(&mut nodes);
+        score.count(agrees(alloc, &bench, &nodes)?);
     }
-    score
+    Ok(score)
 }

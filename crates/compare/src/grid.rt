@@ -1,16 +1,19 @@
 //! A second planner: slot by slot over the whole order, with clashes in a grid of its own.
 
-/// Which of up to 64 items clash.
+/// Which of up to 64 items clash: a bit of each row for each item, unlike the kit's sets.
 #[derive(Clone, Copy)]
 pub struct Grid {
     rows: [u64; 64],
 }
 
-impl Grid {
-    pub fn new() -> Grid {
+impl Default for Grid {
+    /// No item clashes.
+    fn default() -> Grid {
         Grid { rows: [0; 64] }
     }
+}
 
+impl Grid {
     pub fn has(&self, a: usize, b: usize) -> bool {
         a < 64 && b < 64 && (self.rows[a] >> b) & 1 == 1
     }
@@ -27,13 +30,9 @@ impl Grid {
     pub fn within_two(&self) -> Grid {
         let mut reached = *self;
         for a in 0..64 {
-            for b in 0..64 {
-                if self.has(a, b) {
-                    for c in 0..64 {
-                        if self.has(b, c) {
-                            reached.join(a, c);
-                        }
-                    }
+            for b in (0..64).filter(|b| self.has(a, *b)) {
+                for c in (0..64).filter(|c| self.has(b, *c)) {
+                    reached.join(a, c);
                 }
             }
         }
@@ -42,21 +41,19 @@ impl Grid {
 
     // Whether an item that clashes with `a` has the slot.
     fn is_held(&self, slots: &[u16; 64], a: usize, slot: u16) -> bool {
-        for b in 0..64 {
-            if slots[b] == slot && self.has(a, b) {
-                return true;
-            }
-        }
-        false
+        slots
+            .iter()
+            .enumerate()
+            .any(|(b, held)| *held == slot && self.has(a, b))
     }
 
     /// The slots of the items of an order. Slot after slot, each item of the order that has none
     /// yet gets it, unless an item that clashes has it already.
     pub fn plan(&self, order: &[u16]) -> [u16; 64] {
-        let mut slots = [0u16; 64];
-        for slot in 1..65u16 {
+        let mut slots = [0; 64];
+        for slot in 1..=64 {
             for item in order {
-                let a = *item as usize;
+                let a = usize::from(*item);
                 if a < 64 && slots[a] == 0 && !self.is_held(&slots, a, slot) {
                     slots[a] = slot;
                 }

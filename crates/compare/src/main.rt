@@ -3,8 +3,9 @@
 //! cases agreed, and ends with an error if any differed.
 #![tactic(auto)]
 
-use anyhow::anyhow;
+use anyhow::ensure;
 use score::Score;
+use std::io;
 
 mod bench;
 mod dice;
@@ -12,29 +13,26 @@ mod drives;
 mod examples;
 mod grid;
 mod jobs;
-mod order;
 mod planners;
 mod score;
 mod settled;
 
+// Prints a group's line, and gives its score back.
+fn show(rt: &impl Print, name: &str, score: Score) -> io::Result<Score> {
+    println!(rt; "{name}: {score}")?;
+    Ok(score)
+}
+
 fn main(rt: HostRuntime) -> anyhow::Result<()> {
-    let mut all = Score::new();
-    let groups = [
-        ("nodes of a map", examples::openings()),
-        ("rounds of a draw", examples::rounds()),
-        ("the listed job", jobs::listed()),
-        ("planner, node rule", planners::nodes(5000)),
-        ("planner, link rule", planners::links(3000)),
-        ("drive and planner", drives::drives(500)),
-        ("runs over the coin radio", settled::runs(500)),
-    ];
-    for (name, score) in groups {
-        println!(rt; "{}: {} of {} agreed", name, score.agreed, score.cases)?;
-        all.add(score);
-    }
-    if all.agreed == all.cases {
-        Ok(())
-    } else {
-        Err(anyhow!("some cases differed"))
-    }
+    let alloc = rt.alloc();
+    let mut all = Score::default();
+    all += show(&rt, "nodes of a map", examples::openings())?;
+    all += show(&rt, "rounds of a draw", examples::rounds())?;
+    all += show(&rt, "the listed job", jobs::listed())?;
+    all += show(&rt, "planner, node rule", planners::nodes(alloc, 5000)?)?;
+    all += show(&rt, "planner, link rule", planners::links(alloc, 3000)?)?;
+    all += show(&rt, "drive and planner", drives::drives(alloc, 500)?)?;
+    all += show(&rt, "runs over the coin radio", settled::runs(alloc, 500)?)?;
+    ensure!(all.all_agreed(), "some cases differed");
+    Ok(())
 }

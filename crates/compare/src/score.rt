@@ -1,30 +1,37 @@
 //! How many cases were tried, and how many agreed.
+use std::fmt;
+use std::ops::AddAssign;
 
-#[derive(Clone, Copy)]
+#[derive(Clone, Copy, Default)]
 pub struct Score {
-    pub agreed: u32,
-    pub cases: u32,
+    agreed: u32,
+    cases: u32,
 }
 
 impl Score {
-    pub fn new() -> Score {
-        Score {
-            agreed: 0,
-            cases: 0,
-        }
-    }
-
     /// One case more.
     pub fn count(&mut self, agrees: bool) {
-        self.cases = self.cases.saturating_add(1);
-        if agrees {
-            self.agreed = self.agreed.saturating_add(1);
-        }
+        *self += Score {
+            agreed: u32::from(agrees),
+            cases: 1,
+        };
     }
 
+    pub fn all_agreed(&self) -> bool {
+        self.agreed == self.cases
+    }
+}
+
+impl AddAssign<Score> for Score {
     /// The cases of another group too.
-    pub fn add(&mut self, other: Score) {
+    fn add_assign(&mut self, other: Score) {
         self.agreed = self.agreed.saturating_add(other.agreed);
         self.cases = self.cases.saturating_add(other.cases);
+    }
+}
+
+impl fmt::Display for Score {
+    fn fmt<W: fmt::Write>(&self, f: &mut fmt::Formatter<W>) -> fmt::Result {
+        write!(f, "{} of {} agreed", self.agreed, self.cases)
     }
 }

@@ -3,6 +3,7 @@ use Rattle.std.proofs.Common.{◌≡◌, [], ◌∷◌, Some, refl}
 use Rattle.marks.specs.Below.{some_below, sum_below}
 use Rattle.marks.specs.declared.Marks.{Marks}
 use Rattle.map.specs.declared.Map.{Map}
+use Rattle.radio.specs.declared.kind.Kind.TheVariants.{Grant as GrantKind, Reject as RejectKind}
 use Rattle.rig.specs.Calm.{blank}
 use Rattle.rig.specs.Board.{each}
 use Rattle.rig.specs.declared.node.Node.{Node}
@@ -16,7 +17,7 @@ abbrev pub again : Node
 again = asking asked
 
 module _ (m : Map) where
-  pub rejected : delivered_of m (path 2) (two asked blank) (Some (reject 1 1 0)) ≡ answers gave blank (fail 1 0 1 ∷ []) 3
+  pub rejected : delivered_of m (path 2) (two asked blank) (Some (reject 1 1 0)) ≡ answers gave blank (fail 1 0 1 ∷ []) (Some RejectKind)
   unfolding each
   rejected = refl
 
@@ -24,5 +25,5 @@ module _ (m : Map) where
   unfolding some_below sum_below each
   draw_again = refl
 
-  pub late : (slots : Marks) → delivered_of m (path 2) (two again blank) (Some (grant slots 1 1 0)) ≡ answers again blank (fail 1 0 1 ∷ []) 2
+  pub late : (slots : Marks) → delivered_of m (path 2) (two again blank) (Some (grant slots 1 1 0)) ≡ answers again blank (fail 1 0 1 ∷ []) (Some GrantKind)
   late slots = refl

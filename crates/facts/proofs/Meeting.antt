@@ -1,7 +1,9 @@
 -- Two linked nodes that both ask: each call, computed.
-use Rattle.std.proofs.Common.{◌≡◌, ℕ, List, [], ◌∷◌, replicate, Some, None, Ok, refl}
+use Rattle.std.proofs.Common.{◌≡◌, List, [], ◌∷◌, Option, replicate, Some, None, Ok, refl}
 use Rattle.marks.specs.Below.{some_below, sum_below}
 use Rattle.map.specs.declared.Map.{Map}
+use Rattle.radio.specs.declared.kind.Kind.{Kind}
+use Rattle.radio.specs.declared.kind.Kind.TheVariants.{Request as RequestKind, Reject as RejectKind, Fail as FailKind}
 use Rattle.radio.specs.declared.message.Message.{Message}
 use Rattle.rig.specs.declared.node.Node.{Node}
 use Rattle.rig.specs.declared.node.Phase.TheVariants.{Idle}
@@ -26,7 +28,7 @@ gave = phased asked Idle
 abbrev pub draws : Node → Node → Message → After Lottery
 draws v w x = record { board = two v w; sent = x ∷ []; answer = Ok Asked }
 
-abbrev pub answers : Node → Node → List Message → ℕ → After ℕ
+abbrev pub answers : Node → Node → List Message → Option Kind → After (Option Kind)
 answers v w sent kind = record { board = two v w; sent = sent; answer = Ok kind }
 
 module _ (m : Map) where
@@ -38,25 +40,25 @@ module _ (m : Map) where
   unfolding some_below sum_below each
   draw_1 = refl
 
-  pub request_1 : delivered_of m (path 2) (two asked asked) (Some (request 1 0 1)) ≡ answers asked asked (reject 1 1 0 ∷ []) 1
+  pub request_1 : delivered_of m (path 2) (two asked asked) (Some (request 1 0 1)) ≡ answers asked asked (reject 1 1 0 ∷ []) (Some RequestKind)
   request_1 = refl
 
-  pub request_0 : delivered_of m (path 2) (two asked asked) (Some (request 1 1 0)) ≡ answers asked asked (reject 1 0 1 ∷ []) 1
+  pub request_0 : delivered_of m (path 2) (two asked asked) (Some (request 1 1 0)) ≡ answers asked asked (reject 1 0 1 ∷ []) (Some RequestKind)
   request_0 = refl
 
-  pub reject_0 : delivered_of m (path 2) (two asked asked) (Some (reject 1 1 0)) ≡ answers gave asked (fail 1 0 1 ∷ []) 3
+  pub reject_0 : delivered_of m (path 2) (two asked asked) (Some (reject 1 1 0)) ≡ answers gave asked (fail 1 0 1 ∷ []) (Some RejectKind)
   unfolding each
   reject_0 = refl
 
-  pub reject_1 : delivered_of m (path 2) (two gave asked) (Some (reject 1 0 1)) ≡ answers gave gave (fail 1 1 0 ∷ []) 3
+  pub reject_1 : delivered_of m (path 2) (two gave asked) (Some (reject 1 0 1)) ≡ answers gave gave (fail 1 1 0 ∷ []) (Some RejectKind)
   unfolding each
   reject_1 = refl
 
-  pub fail_1 : delivered_of m (path 2) (two gave gave) (Some (fail 1 0 1)) ≡ answers gave gave [] 5
+  pub fail_1 : delivered_of m (path 2) (two gave gave) (Some (fail 1 0 1)) ≡ answers gave gave [] (Some FailKind)
   fail_1 = refl
 
-  pub fail_0 : delivered_of m (path 2) (two gave gave) (Some (fail 1 1 0)) ≡ answers gave gave [] 5
+  pub fail_0 : delivered_of m (path 2) (two gave gave) (Some (fail 1 1 0)) ≡ answers gave gave [] (Some FailKind)
   fail_0 = refl
 
-  pub nothing : delivered_of m (path 2) (two gave gave) None ≡ answers gave gave [] 0
+  pub nothing : delivered_of m (path 2) (two gave gave) None ≡ answers gave gave [] None
   nothing = refl

@@ -5,6 +5,8 @@ use Rattle.marks.specs.View.{marked}
 use Rattle.refusal.specs.declared.Refusal.TheVariants.{Node as NoNode, Settled, Busy, Spent, Foreign}
 use Rattle.map.specs.declared.Map.{Map}
 use Rattle.map.specs.View.{Net, net}
+use Rattle.radio.specs.declared.kind.Kind.{Kind}
+use Rattle.radio.specs.declared.kind.Kind.TheVariants.{Grant as GrantKind, Reject as RejectKind, Release as ReleaseKind, Fail as FailKind}
 use Rattle.radio.specs.declared.message.Message.{Message}
 use Rattle.rig.specs.declared.Lottery.{Lottery}
 use Rattle.rig.specs.declared.Lottery.TheVariants.{Lost, Asked, Decided}
@@ -57,27 +59,27 @@ module _ (m : Map) (n : Net) where
   abbrev pub complete_of : Board → ℕ → Bool
   complete_of b k = not (some_below (λ j. n.links k j && not (marked (at b k).granted j)) n.size)
 
-  abbrev pub on_grant_of : Board → Message → After ℕ
+  abbrev pub on_grant_of : Board → Message → After (Option Kind)
   on_grant_of b x =
       cond (waits (at b x.receiver) x.round)
-      (cond (complete_of (counts m b x) x.receiver) (sends m (settled_of (counts m b x) x.receiver) (settled_sent_of (counts m b x) x.receiver) 2) (sends m (counts m b x) [] 2))
+      (cond (complete_of (counts m b x) x.receiver) (sends m (settled_of (counts m b x) x.receiver) (settled_sent_of (counts m b x) x.receiver) GrantKind) (sends m (counts m b x) [] GrantKind))
       (cond (not (eqb (at b x.receiver).slot 0) && eqb (at b x.receiver).dated x.round)
-      (sends m b (release (at b x.receiver).slot x.round x.receiver x.sender ∷ []) 2)
-      (sends m b (fail x.round x.receiver x.sender ∷ []) 2))
+      (sends m b (release (at b x.receiver).slot x.round x.receiver x.sender ∷ []) GrantKind)
+      (sends m b (fail x.round x.receiver x.sender ∷ []) GrantKind))
 
-  abbrev pub on_reject_of : Board → Message → After ℕ
-  on_reject_of b x = cond (waits (at b x.receiver) x.round) (sends m (gave_up m b x.receiver) (fail_all_of b x.receiver) 3) (sends m b [] 3)
+  abbrev pub on_reject_of : Board → Message → After (Option Kind)
+  on_reject_of b x = cond (waits (at b x.receiver) x.round) (sends m (gave_up m b x.receiver) (fail_all_of b x.receiver) RejectKind) (sends m b [] RejectKind)
 
-  abbrev pub received_of : Board → Message → After ℕ
+  abbrev pub received_of : Board → Message → After (Option Kind)
   received_of b x =
       cond (foreign_of x) (refused b Foreign)
       (cond (eqb x.kind 1) (on_request m b x (at b x.receiver).phase)
       (cond (eqb x.kind 2) (on_grant_of b x)
       (cond (eqb x.kind 3) (on_reject_of b x)
-      (cond (eqb x.kind 4) (sends m (frees m (hears m b x) x) [] 4) (sends m (frees m b x) [] 5)))))
+      (cond (eqb x.kind 4) (sends m (frees m (hears m b x) x) [] ReleaseKind) (sends m (frees m b x) [] FailKind)))))
 
-  abbrev pub delivered_of : Board → Option Message → After ℕ
-  delivered_of b None = sends m b [] 0
+  abbrev pub delivered_of : Board → Option Message → After (Option Kind)
+  delivered_of b None = record { board = b; sent = []; answer = Ok None }
   delivered_of b (Some x) = received_of b x
 
 module _ (m : Map) (n : Net) (e : net m ≡ n) where

@@ -1,11 +1,13 @@
 -- The worked examples by the definitions of the kit: a lottery, a late grant, the last rounds; and all of them together.
-use Rattle.std.proofs.Common.{◌≡◌, ℕ, suc, ◌+◌, ◌/◌, ◌%◌, ◌<◌, Bool, true, false, cond, not, ◌&&◌, ◌||◌, eqb, ltb, [], ◌∷◌, length, Some, Ok, Err, refl, ap, ◌∙◌, ap₂, length-set, get_or-set_same}
+use Rattle.std.proofs.Common.{◌≡◌, ℕ, suc, ◌+◌, ◌/◌, ◌%◌, ◌<◌, Bool, true, false, cond, not, ◌&&◌, ◌||◌, eqb, ltb, [], ◌∷◌, length, Option, Some, Ok, Err, refl, ap, ◌∙◌, ap₂, length-set, get_or-set_same}
 use Rattle.std.proofs.lemmas.Bool.{lt-ltb}
 use Rattle.marks.specs.declared.Marks.{Marks}
 use Rattle.marks.specs.Below.{some_below}
 use Rattle.refusal.specs.declared.Refusal.TheVariants.{Node as NoNode, Settled, Busy, Spent, Foreign}
 use Rattle.map.specs.View.{nodes, linked, Linked, contender_count}
 use Rattle.map.specs.declared.Map.{Map}
+use Rattle.radio.specs.declared.kind.Kind.{Kind}
+use Rattle.radio.specs.declared.kind.Kind.TheVariants.{Grant as GrantKind}
 use Rattle.radio.specs.Coin.{stepped}
 use Rattle.rig.specs.Calm.{at, blank, is_request, is_grant}
 use Rattle.rig.specs.Board.{Board, put, decided_count}
@@ -31,17 +33,17 @@ lottery_is m k e = (of 0, of 1, of 3, of 7, of 8)
     of v = ap (λ (n : ℕ). eqb (v % 2) 1 && eqb (v / 2 % (n + 1)) 0) e
 
 pub late_is : (m : Map) (b : Board) (j k : ℕ) (s : Marks) → Linked m j k → (at b k).phase ≡ Request → (at b k).slot ≡ 0 → (at b k).round ≡ 2
-    → delivered m b (Some (grant s 1 j k)) ≡ record { board = b; sent = fail 1 k j ∷ []; answer = Ok 2 }
+    → delivered m b (Some (grant s 1 j k)) ≡ record { board = b; sent = fail 1 k j ∷ []; answer = Ok (Some GrantKind) }
 late_is m b j k s l p z r =
     ap (λ (x : Bool). cond (not x || false) (refused b Foreign) (on_grant m b (grant s 1 j k))) l
     ∙ ap₂ (λ (x : Phase) (y : ℕ). cond (is_request x && eqb 1 y) yes no) p r
-    ∙ ap (λ (x : ℕ). cond (not (eqb x 0) && eqb (at b k).dated 1) (sends m b (release (at b k).slot 1 k j ∷ []) 2) (sends m b (fail 1 k j ∷ []) 2)) z
+    ∙ ap (λ (x : ℕ). cond (not (eqb x 0) && eqb (at b k).dated 1) (sends m b (release (at b k).slot 1 k j ∷ []) GrantKind) (sends m b (fail 1 k j ∷ []) GrantKind)) z
   where
-    yes : After ℕ
-    yes = cond (complete m (counts m b (grant s 1 j k)) k) (sends m (settled m (counts m b (grant s 1 j k)) k) (settled_sent m (counts m b (grant s 1 j k)) k) 2) (sends m (counts m b (grant s 1 j k)) [] 2)
+    yes : After (Option Kind)
+    yes = cond (complete m (counts m b (grant s 1 j k)) k) (sends m (settled m (counts m b (grant s 1 j k)) k) (settled_sent m (counts m b (grant s 1 j k)) k) GrantKind) (sends m (counts m b (grant s 1 j k)) [] GrantKind)
 
-    no : After ℕ
-    no = cond (not (eqb (at b k).slot 0) && eqb (at b k).dated 1) (sends m b (release (at b k).slot 1 k j ∷ []) 2) (sends m b (fail 1 k j ∷ []) 2)
+    no : After (Option Kind)
+    no = cond (not (eqb (at b k).slot 0) && eqb (at b k).dated 1) (sends m b (release (at b k).slot 1 k j ∷ []) GrantKind) (sends m b (fail 1 k j ∷ []) GrantKind)
 
 -- the answer and the nodes of a draw by an idle node without a slot
 module _ (m : Map) (b : Board) (k v : ℕ) (inside : k < nodes m) (free : (at b k).slot ≡ 0) (idle : (at b k).phase ≡ Idle) where

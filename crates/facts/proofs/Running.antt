@@ -1,7 +1,9 @@
 -- Two linked nodes that both ask, as a run over the rack queue.
-use Rattle.std.proofs.Common.{◌≡◌, ℕ, List, [], ◌∷◌, ◌++◌, refl, ap, ◌∙◌, subst}
+use Rattle.std.proofs.Common.{◌≡◌, ℕ, List, [], ◌∷◌, ◌++◌, Option, Some, None, refl, ap, ◌∙◌, subst}
 use Rattle.map.specs.View.{Net, net}
 use Rattle.map.specs.declared.Map.{Map}
+use Rattle.radio.specs.declared.kind.Kind.{Kind}
+use Rattle.radio.specs.declared.kind.Kind.TheVariants.{Request as RequestKind, Reject as RejectKind, Fail as FailKind}
 use Rattle.radio.specs.Ways.{puts}
 use Rattle.radio.specs.Queue.{queue_ways}
 use Rattle.radio.specs.declared.message.Message.{Message}
@@ -36,13 +38,13 @@ module _ (m : Map) (is : net m ≡ path 2) where
       (subst (λ (x : After Lottery). Calls queue_ways m new_board [] (calls ++ (Draw k v ∷ [])) (told ++ (Drawn x.answer ∷ [])) (deciders m b x.board) x.board (puts queue_ways s x.sent))
       (drawn-of m (path 2) is b k v ∙ e) (more h (Draw k v)))
 
-  came : {calls : List Call} {told : List Answer} {b : Board} {s : List Message} → Leads calls told b s → (a : After ℕ)
+  came : {calls : List Call} {told : List Answer} {b : Board} {s : List Message} → Leads calls told b s → (a : After (Option Kind))
       → delivered_of m (path 2) b (queue_ways.taken s) ≡ a → each (decides b a.board) (λ i. i) 2 ≡ []
       → Leads (calls ++ (Deliver ∷ [])) (told ++ (Delivered a.answer ∷ [])) a.board (puts queue_ways (queue_ways.after_take s) a.sent)
   came {calls} {told} {b} {s} h a e d =
       subst (λ (o : List ℕ). Calls queue_ways m new_board [] (calls ++ (Deliver ∷ [])) (told ++ (Delivered a.answer ∷ [])) o a.board (puts queue_ways (queue_ways.after_take s) a.sent))
       (undecided b a.board d)
-      (subst (λ (x : After ℕ). Calls queue_ways m new_board [] (calls ++ (Deliver ∷ [])) (told ++ (Delivered x.answer ∷ [])) (deciders m b x.board) x.board (puts queue_ways (queue_ways.after_take s) x.sent))
+      (subst (λ (x : After (Option Kind)). Calls queue_ways m new_board [] (calls ++ (Deliver ∷ [])) (told ++ (Delivered x.answer ∷ [])) (deciders m b x.board) x.board (puts queue_ways (queue_ways.after_take s) x.sent))
       (delivered-of m (path 2) is b (queue_ways.taken s) ∙ e) (more h Deliver))
 
   pub meeting : Run queue_ways m both_calls both_answers [] (two gave gave) []
@@ -50,11 +52,11 @@ module _ (m : Map) (is : net m ≡ path 2) where
   meeting =
       let s₁ = drew none 0 1 (draws asked blank (request 1 0 1)) (draw_0 m) refl in
       let s₂ = drew s₁ 1 1 (draws asked asked (request 1 1 0)) (draw_1 m) refl in
-      let s₃ = came s₂ (answers asked asked (reject 1 1 0 ∷ []) 1) (request_1 m) refl in
-      let s₄ = came s₃ (answers asked asked (reject 1 0 1 ∷ []) 1) (request_0 m) refl in
-      let s₅ = came s₄ (answers gave asked (fail 1 0 1 ∷ []) 3) (reject_0 m) refl in
-      let s₆ = came s₅ (answers gave gave (fail 1 1 0 ∷ []) 3) (reject_1 m) refl in
-      let s₇ = came s₆ (answers gave gave [] 5) (fail_1 m) refl in
-      let s₈ = came s₇ (answers gave gave [] 5) (fail_0 m) refl in
-      let s₉ = came s₈ (answers gave gave [] 0) (nothing m) refl in
+      let s₃ = came s₂ (answers asked asked (reject 1 1 0 ∷ []) (Some RequestKind)) (request_1 m) refl in
+      let s₄ = came s₃ (answers asked asked (reject 1 0 1 ∷ []) (Some RequestKind)) (request_0 m) refl in
+      let s₅ = came s₄ (answers gave asked (fail 1 0 1 ∷ []) (Some RejectKind)) (reject_0 m) refl in
+      let s₆ = came s₅ (answers gave gave (fail 1 1 0 ∷ []) (Some RejectKind)) (reject_1 m) refl in
+      let s₇ = came s₆ (answers gave gave [] (Some FailKind)) (fail_1 m) refl in
+      let s₈ = came s₇ (answers gave gave [] (Some FailKind)) (fail_0 m) refl in
+      let s₉ = came s₈ (answers gave gave [] None) (nothing m) refl in
       record { start = []; empty = refl; made = s₉ }

@@ -1,11 +1,12 @@
 -- The worked examples: what the calls of each come to.
-use Rattle.std.specs.Prelude.{◌≡◌, ℕ, ◌/◌, ◌%◌, true, false, cond, ◌&&◌, [], ◌∷◌, Ok, Err, Result, ◌==◌}
+use Rattle.std.specs.Prelude.{◌≡◌, ℕ, ◌/◌, ◌%◌, true, false, cond, ◌&&◌, [], ◌∷◌, Some, None, Ok, Err, Result, ◌==◌}
 use Rattle.marks.specs.Sets.{none}
 use Rattle.refusal.specs.declared.Refusal.{Refusal}
 use Rattle.refusal.specs.declared.Refusal.TheVariants.{Count}
 use Rattle.map.specs.View.{net}
 use Rattle.schedule.specs.declared.checking.Verdict.TheVariants.{Accepted, Clash}
 use Rattle.radio.specs.Waiting.{waiting}
+use Rattle.radio.specs.declared.kind.Kind.TheVariants.{Request as RequestKind, Grant as GrantKind, Reject as RejectKind, Fail as FailKind}
 use Rattle.rig.specs.Calm.{at}
 use Rattle.rig.specs.Steps.{fail}
 use Rattle.rig.specs.declared.node.Phase.TheVariants.{Idle, Request}
@@ -66,7 +67,7 @@ pub record LateGrant (r : Late) : Type 0 where
   pub map : net r.rig.map ≡ path 2
   pub asking : (at r.before.nodes 0).phase ≡ Request
   pub second : (at r.before.nodes 0).round ≡ 2
-  pub answer : r.answer ≡ Ok 2
+  pub answer : r.answer ≡ Ok (Some GrantKind)
   pub phase : r.phase ≡ Ok Request
   pub round : r.round ≡ Ok 2
   pub granted : (at r.rig.nodes 0).granted ≡ none
@@ -78,7 +79,9 @@ pub record LateGrant (r : Late) : Type 0 where
 pub record BothRequest (r : Both) : Type 0 where
   pub map : net r.rig.map ≡ path 2
   pub draws : r.draws ≡ Ok Asked ∷ Ok Asked ∷ []
-  pub deliveries : r.deliveries ≡ Ok 1 ∷ Ok 1 ∷ Ok 3 ∷ Ok 3 ∷ Ok 5 ∷ Ok 5 ∷ Ok 0 ∷ []
+  pub deliveries : r.deliveries ≡
+      Ok (Some RequestKind) ∷ Ok (Some RequestKind) ∷ Ok (Some RejectKind) ∷ Ok (Some RejectKind)
+      ∷ Ok (Some FailKind) ∷ Ok (Some FailKind) ∷ Ok None ∷ []
   pub phases : r.phases ≡ Ok Idle ∷ Ok Idle ∷ []
   pub slots : r.slots ≡ Ok 0 ∷ Ok 0 ∷ []
   pub first : ((at r.rig.nodes 0).phase ≡ Idle) × ((at r.rig.nodes 0).slot ≡ 0)

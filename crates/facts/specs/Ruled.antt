@@ -1,5 +1,5 @@
 -- The worked examples by the definitions that the kit's contracts cite: of every map with the net that an example names, and so of every rig on it.
-use Rattle.std.specs.Prelude.{◌≡◌, ℕ, ◌<◌, true, false, List, [], ◌∷◌, length, Some, Ok, Err, Result}
+use Rattle.std.specs.Prelude.{◌≡◌, ℕ, ◌<◌, true, false, List, [], ◌∷◌, length, Some, None, Ok, Err, Result}
 use Rattle.marks.specs.declared.Marks.{Marks}
 use Rattle.refusal.specs.declared.Refusal.{Refusal}
 use Rattle.refusal.specs.declared.Refusal.TheVariants.{Count, Spent}
@@ -11,6 +11,7 @@ use Rattle.schedule.specs.Sharing.{Checked}
 use Rattle.schedule.specs.declared.checking.Verdict.{Verdict}
 use Rattle.schedule.specs.declared.checking.Verdict.TheVariants.{Accepted, Clash}
 use Rattle.rules.specs.Pairs.{link_clash}
+use Rattle.radio.specs.declared.kind.Kind.TheVariants.{Request as RequestKind, Grant as GrantKind, Reject as RejectKind, Fail as FailKind}
 use Rattle.radio.specs.Coin.{stepped}
 use Rattle.radio.specs.Queue.{queue_ways}
 use Rattle.rig.specs.Calm.{at}
@@ -36,7 +37,8 @@ both_calls = Draw 0 1 ∷ Draw 1 1 ∷ Deliver ∷ Deliver ∷ Deliver ∷ Deliv
 abbrev pub both_answers : List Answer
 both_answers =
     Drawn (Ok Asked) ∷ Drawn (Ok Asked)
-    ∷ Delivered (Ok 1) ∷ Delivered (Ok 1) ∷ Delivered (Ok 3) ∷ Delivered (Ok 3) ∷ Delivered (Ok 5) ∷ Delivered (Ok 5) ∷ Delivered (Ok 0) ∷ []
+    ∷ Delivered (Ok (Some RequestKind)) ∷ Delivered (Ok (Some RequestKind)) ∷ Delivered (Ok (Some RejectKind)) ∷ Delivered (Ok (Some RejectKind))
+    ∷ Delivered (Ok (Some FailKind)) ∷ Delivered (Ok (Some FailKind)) ∷ Delivered (Ok None) ∷ []
 
 pub record Ruled : Type 0 where
   -- a lone node, draw with 1, over any radio: it decides, for slot 1 at turn 1, and puts nothing in
@@ -54,7 +56,7 @@ pub record Ruled : Type 0 where
   pub checks : (m : Map) → net m ≡ path 3 → Answers m (1 ∷ 2 ∷ 1 ∷ []) (Clash (0, 2)) × Answers m (1 ∷ 2 ∷ 0 ∷ []) (Accepted 2)
   -- any node in request in round 2: a grant of round 1 from a neighbour, whatever slots it holds, alters nothing, and is answered by one fail of round 1
   pub late : (m : Map) (b : Board) (j k : ℕ) (s : Marks) → Linked m j k → (at b k).phase ≡ Request → (at b k).slot ≡ 0 → (at b k).round ≡ 2
-      → delivered m b (Some (grant s 1 j k)) ≡ record { board = b; sent = fail 1 k j ∷ []; answer = Ok 2 }
+      → delivered m b (Some (grant s 1 j k)) ≡ record { board = b; sent = fail 1 k j ∷ []; answer = Ok (Some GrantKind) }
   -- two linked nodes both ask: a run over the rack queue, in which six deliveries bring a message; at its end nobody has decided, both are idle, and nothing waits
   pub both : (m : Map) → net m ≡ path 2
       → (b : Board) × Run queue_ways m both_calls both_answers [] b [] × ((at b 0).phase ≡ Idle) × ((at b 1).phase ≡ Idle) × ((at b 0).slot ≡ 0) × ((at b 1).slot ≡ 0)

@@ -1,5 +1,5 @@
 //! What the worked examples come to.
-use radio::RackQueue;
+use radio::{Kind, RackQueue};
 use refusal::Refusal;
 use rig::{Lottery, Phase, Rig};
 use schedule::Verdict;
@@ -42,7 +42,7 @@ pub struct Late {
     /// The rig before the delivery.
     pub before: Rig,
     /// What the delivery answered.
-    pub answer: Result<u8, Refusal>,
+    pub answer: Result<Option<Kind>, Refusal>,
     /// The node's phase after it.
     pub phase: Result<Phase, Refusal>,
     /// The node's round after it.
@@ -59,7 +59,7 @@ pub struct Both {
     /// What the draws of node 0 and node 1 answered.
     pub draws: [Result<Lottery, Refusal>; 2],
     /// What the deliveries after that answered.
-    pub deliveries: [Result<u8, Refusal>; 7],
+    pub deliveries: [Result<Option<Kind>, Refusal>; 7],
     /// The phases of node 0 and node 1 after all.
     pub phases: [Result<Phase, Refusal>; 2],
     /// Their slots after all.

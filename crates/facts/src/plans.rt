@@ -44,6 +44,7 @@ pub(crate) fn linked_path() -> Result<Links, Refusal>
 }
 
 // The generator's step from 1.
+#[tactic(auto, unfolding(radio::specs::Coin::stepped))]
 pub(crate) fn generator_step() -> u32
     ensures { result ≡ 270369 }
 {

@@ -1,6 +1,7 @@
 //! Examples of draws and deliveries.
 ghost use Rattle.std.specs.Prelude.{◌≡◌, ◌≤◌, Ok};
 ghost use Rattle.map.specs.View.{net};
+ghost use Rattle.radio.specs.Kinds.{kind_number};
 ghost use Rattle.rig.specs.Board.{new_board, put};
 ghost use Rattle.rig.specs.Calm.{blank};
 ghost use Rattle.rig.specs.Steps.{asking};
@@ -10,7 +11,7 @@ ghost use Rattle.facts.specs.Paths.{path as path_of};
 use crate::maps::path;
 use crate::outcomes::{Both, Draws, Late, Lone};
 use marks::Marks;
-use radio::{Message, RackQueue, Radio};
+use radio::{Kind, Message, RackQueue, Radio};
 use refusal::Refusal;
 use rig::{Lottery, Rig};
 
@@ -53,6 +54,7 @@ fn draw_with(number: u32) -> Result<Lottery, Refusal>
 }
 
 // The lottery of a node with two contenders.
+#[tactic(auto, using(crate::proofs::Drawing::three_contenders))]
 pub(crate) fn three_contend() -> Draws
     ensures { LotteryOfThree result }
 {
@@ -68,11 +70,11 @@ pub(crate) fn three_contend() -> Draws
 }
 
 // A message from node 1 to node 0.
-fn to_node_0(kind: u8, round: u16, slots: Marks) -> Message
-    ensures { result ≡ record { kind = kind; sender = 1; receiver = 0; round = round; slot = 0; slots = slots } }
+fn to_node_0(kind: Kind, round: u16, slots: Marks) -> Message
+    ensures { result ≡ record { kind = kind_number kind; sender = 1; receiver = 0; round = round; slot = 0; slots = slots } }
 {
     Message {
-        kind,
+        kind: kind.into(),
         sender: 1,
         receiver: 0,
         round,
@@ -90,7 +92,7 @@ fn in_round_two() -> Rig
     let mut queue = RackQueue::new();
     let _ = rig.draw(0, 1, &mut queue);
     let mut answer = RackQueue::new();
-    answer.put(to_node_0(3, 1, Marks::empty()));
+    answer.put(to_node_0(Kind::Reject, 1, Marks::empty()));
     let _ = rig.deliver(&mut answer);
     let _ = rig.draw(0, 1, &mut answer);
     rig
@@ -103,7 +105,7 @@ pub(crate) fn late_grant() -> Late
     let before = in_round_two();
     let mut rig = before;
     let mut queue = RackQueue::new();
-    queue.put(to_node_0(2, 1, Marks::empty().with(0)));
+    queue.put(to_node_0(Kind::Grant, 1, Marks::empty().with(0)));
     let answer = rig.deliver(&mut queue);
     let phase = rig.phase(0);
     let round = rig.round(0);

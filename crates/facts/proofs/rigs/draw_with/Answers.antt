@@ -1,8 +1,7 @@
 use Rattle.std.proofs.Common.{[], refl, ◌∙◌}
 use Rattle.rig.specs.Board.{new_board}
 use Rattle.facts.specs.Paths.{path}
-use Rattle.facts.proofs.Stands.{Stands, draw_answers}
-use Rattle.facts.proofs.Nets.{drawn_of}
+use Rattle.facts.proofs.Stands.{Stands, drew}
 use Rattle.facts.proofs.Drawing.{three_drawn}
 use Rattle.facts.proofs.rigs.draw_with.Goals as goal
 
@@ -10,4 +9,4 @@ pub returns : goal.returns
 returns c =
     let rig = c.rig_on_path-rig.result in
     let first : Stands (path 3) new_board [] rig _ = record { map = c.rig_on_path-rig.ensures.map; nodes = c.rig_on_path-rig.ensures.nodes; radio = c.new-queue.ensures } in
-    draw_answers first 0 c.args.number (drawn_of rig.map (path 3) new_board 0 c.args.number) refl c.draw.result c.draw.ensures.value ∙ three_drawn rig.map c.args.number
+    (drew first 0 c.args.number refl c.draw.ensures.value c.draw.ensures.made).answer ∙ three_drawn rig.map c.args.number

@@ -1,10 +1,10 @@
 use Rattle.std.proofs.Common.{[], ◌∷◌, sym, refl, ap, ◌∙◌}
 use Rattle.rig.specs.Calm.{blank, at}
 use Rattle.rig.specs.Board.{Board}
-use Rattle.rig.specs.Steps.{grant, fail}
+use Rattle.rig.specs.Steps.{grant}
 use Rattle.facts.specs.Paths.{path}
-use Rattle.facts.proofs.Stands.{Stands, came, delivery_answers, told_is, put_alone}
-use Rattle.facts.proofs.Meeting.{two, answers}
+use Rattle.facts.proofs.Stands.{Stands, came, told_is, put_alone}
+use Rattle.facts.proofs.Meeting.{two}
 use Rattle.facts.proofs.LateGrants.{again, late}
 use Rattle.facts.proofs.rigs.late_grant.Goals as goal
 
@@ -14,17 +14,17 @@ returns c =
     let slots = c.with.result in
     let posted = put_alone c.new-queue.ensures c.to_node_0.ensures c.put.ensures in
     let s₀ : Stands (path 2) (two again blank) (grant slots 1 1 0 ∷ []) rig _ = record { map = c.in_round_two-before.ensures.map; nodes = c.in_round_two-before.ensures.nodes; radio = posted } in
-    let a = answers again blank (fail 1 0 1 ∷ []) 2 in
-    let s₁ = came s₀ a (late rig.map slots) c.deliver-answer.ensures.made in
+    let s₁ = came s₀ (late rig.map slots) c.deliver-answer.ensures.value c.deliver-answer.ensures.made in
+    let end = s₁.stands in
     record {
-      map = s₁.map;
+      map = end.map;
       asking = ap (λ (x : Board). (at x 0).phase) s₀.nodes;
       second = ap (λ (x : Board). (at x 0).round) s₀.nodes;
-      answer = delivery_answers s₀ a (late rig.map slots) c.deliver-answer.result c.deliver-answer.ensures.value;
-      phase = told_is s₁ 0 (λ v. v.phase) c.phase-phase.result refl c.phase-phase.ensures;
-      round = told_is s₁ 0 (λ v. v.round) c.round-round.result refl c.round-round.ensures;
-      granted = ap (λ (x : Board). (at x 0).granted) s₁.nodes;
-      taken = ap (λ (x : Board). (at x 0).taken) s₁.nodes;
-      stays = s₁.nodes ∙ sym s₀.nodes;
-      sent = s₁.radio;
+      answer = s₁.answer;
+      phase = told_is end 0 (λ v. v.phase) c.phase-phase.result refl c.phase-phase.ensures;
+      round = told_is end 0 (λ v. v.round) c.round-round.result refl c.round-round.ensures;
+      granted = ap (λ (x : Board). (at x 0).granted) end.nodes;
+      taken = ap (λ (x : Board). (at x 0).taken) end.nodes;
+      stays = end.nodes ∙ sym s₀.nodes;
+      sent = end.radio;
     }
