@@ -172,13 +172,17 @@ module _ {job : List ℕ} {s t : Reader} (same : s.job.now ≡ job) (start : s.p
 
 -- at the last record
 
+pub at_end : {job : List ℕ} {s t : Reader} → s.job.now ≡ job → Hands s None t → s.place ≡ records job
+at_end {job} {s} same h =
+    let a : s.place ≤ records job = rw (sym same) s.inside in
+    let b : records job ≤ s.place = handed_none job s.place (rw same at h.value) in
+    omega arith
+
 pub all_good : {job : List ℕ} {s t : Reader} {n : Net} → Reached job s n → Hands s None t → AllGood job × (n ≡ described job)
 all_good {job} {s} at h =
+    let e : s.place ≡ records job = at_end at.same h in
     let a = at.past in
-    let b : s.place ≤ records job = rw (sym at.same) s.inside in
-    let c : records job ≤ s.place = handed_none job s.place (rw at.same at h.value) in
-    let d : s.place ≡ records job = omega arith in
-    (record { some = omega arith; each = λ i l. at.each i (omega arith) }, at.made ∙ ap (λ (k : ℕ). front job (k - 1)) d)
+    (record { some = omega arith; each = λ i l. at.each i (omega arith) }, at.made ∙ ap (λ (k : ℕ). front job (k - 1)) e)
 
 -- the index of a refusal is that of a record
 
