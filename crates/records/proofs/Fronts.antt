@@ -1,5 +1,5 @@
 -- The front of a job: what its first records make, record by record.
-use Rattle.std.proofs.Common.{◌≡◌, ℕ, zero, suc, ◌+◌, ◌-◌, ◌*◌, ◌<◌, ◌≤◌, Bool, true, false, cond, ltb, ◌⊎◌, List, length, get_or, drop, Some, None, Ok, Option, MatchOption, sym, refl, ap, ◌∙◌, ap₂, inl, inr, arith, length-take, get_or-drop, get_or-take}
+use Rattle.std.proofs.Common.{◌≡◌, ℕ, zero, suc, ◌+◌, ◌-◌, ◌*◌, ◌<◌, ◌≤◌, Bool, true, false, ◌⊎◌, List, length, get_or, drop, Some, None, Ok, Option, MatchOption, sym, refl, ap, ◌∙◌, ap₂, inl, inr, arith, length-take, get_or-drop, get_or-take}
 use mathlib.Core.Bool.{or_comm}
 use mathlib.Core.Path.{fun_ext}
 use denote.Ref.{Bor}
@@ -55,21 +55,13 @@ handed_some job xs p e = (grind (arith, nat_tests), grind (arith, nat_tests))
 pub handed_none : (job : List ℕ) (p : ℕ) → None ≡ handed job p → records job ≤ p
 handed_none job p e = grind (arith, nat_tests)
 
--- a reader over the bytes j of the job, at the place p, which then stood at q, handed out xs
-module _ (job j xs : List ℕ) (p q : ℕ) (same : j ≡ job) (value : Some xs ≡ handed j p) (place : q ≡ cond (ltb p (records j)) (p + 1) p) where
-  pub was : (p < records job) × (xs ≡ record_at job p)
-  was = handed_some job xs p (rw same at value)
-
-  pub moved : q ≡ p + 1
-  moved = let w : p < records j = rw same was.0 in grind (arith, nat_tests)
-
 -- the reader s of a job handed out x, and then stood as t
 module _ {job : List ℕ} {s t : Reader} {x : Bor (List ℕ)} (same : s.job.now ≡ job) (h : Hands s (Some x) t) where
   pub here : (s.place < records job) × (x.now ≡ record_at job s.place)
-  here = was job s.job.now x.now s.place t.place same h.value h.place
+  here = handed_some job x.now s.place (rw same at h.value)
 
   pub step : t.place ≡ s.place + 1
-  step = moved job s.job.now x.now s.place t.place same h.value h.place
+  step = let w : s.place < records s.job.now = rw same here.0 in let p = h.place in grind (arith, nat_tests)
 
   pub byte_here : (k : ℕ) → k < 8 → get_or x.now k 0 ≡ byte job s.place k
   byte_here k l = ap (λ (b : List ℕ). get_or b k 0) here.1 ∙ byte_at job s.place k l
@@ -172,13 +164,17 @@ module _ {job : List ℕ} {s t : Reader} (same : s.job.now ≡ job) (start : s.p
 
 -- at the last record
 
+pub at_end : {job : List ℕ} {s t : Reader} → s.job.now ≡ job → Hands s None t → s.place ≡ records job
+at_end {job} {s} same h =
+    let a : s.place ≤ records job = rw (sym same) s.inside in
+    let b : records job ≤ s.place = handed_none job s.place (rw same at h.value) in
+    omega arith
+
 pub all_good : {job : List ℕ} {s t : Reader} {n : Net} → Reached job s n → Hands s None t → AllGood job × (n ≡ described job)
 all_good {job} {s} at h =
+    let e : s.place ≡ records job = at_end at.same h in
     let a = at.past in
-    let b : s.place ≤ records job = rw (sym at.same) s.inside in
-    let c : records job ≤ s.place = handed_none job s.place (rw at.same at h.value) in
-    let d : s.place ≡ records job = omega arith in
-    (record { some = omega arith; each = λ i l. at.each i (omega arith) }, at.made ∙ ap (λ (k : ℕ). front job (k - 1)) d)
+    (record { some = omega arith; each = λ i l. at.each i (omega arith) }, at.made ∙ ap (λ (k : ℕ). front job (k - 1)) e)
 
 -- the index of a refusal is that of a record
 

