@@ -40,8 +40,5 @@ fn describe(map: &Map) -> Text
 pub fn report(job: &[u8]) -> Text
     ensures { Reported job.now (written result) }
 {
-    match build(job) {
-        Ok(map) => describe(&map),
-        Err(refusal) => Text::of_refusal(refusal),
-    }
+    build(job).map_or_else(Text::of_refusal, |map| describe(&map))
 }
