@@ -1,9 +1,10 @@
 -- An overview has space in a text.
-use Rattle.std.proofs.Common.{◌≡◌, ℕ, zero, suc, ◌+◌, ◌*◌, ◌<◌, ◌≤◌, Bool, [], ◌∷◌, ◌++◌, length, get_or, Ok, codes, refl, sym, ap, ◌∙◌, arith, length-append}
+use Rattle.std.proofs.Common.{List, ◌^◌, ◌≡◌, ℕ, zero, suc, ◌+◌, ◌*◌, ◌<◌, ◌≤◌, Bool, [], ◌∷◌, ◌++◌, length, get_or, Ok, codes, refl, sym, ap, ◌∙◌, arith, length-append}
 use Rattle.std.proofs.lemmas.List.FromFn.{length-map-range_with_len, get_or-map-range_with_len}
 use Rattle.std.specs.List.{range_with_len, sum_by}
 use Rattle.std.proofs.lemmas.List.FromFn.{sum_by-map-range_with_len_more}
 use mathlib.Core.List.{map-id}
+use Rattle.std.proofs.lemmas.Nat.{mul-le}
 use Rattle.marks.specs.Below.{count_below, sum_below}
 use Rattle.marks.proofs.Below.{count_le, sum_le, max_le}
 use Rattle.map.specs.View.{nodes, linked, contend, degree, contender_count, pairs, link_count}
@@ -14,7 +15,7 @@ use Rattle.text.proofs.Lines.{one, three, spaced_short, row_short, lines_short}
 use Rattle.schedule.specs.Rand.{Fine}
 use Rattle.schedule.specs.declared.checking.Verdict.TheVariants.{Accepted}
 use Rattle.schedule.proofs.Rand.{rand_is, rand_low}
-use Rattle.report.specs.Overview.{rising, slot_of, frame, contending_pairs, columns, rows, verdict_text, totals, overview}
+use Rattle.report.specs.Overview.{rising, slot_of, frame, contending_pairs, columns, rows, verdict_text, sizes, totals, overview}
 
 -- the nodes in rising order
 
@@ -56,6 +57,18 @@ accepted_short v l =
     let s = length-append (spaced (v ∷ [])) (codes " accepted") in
     omega arith
 
+-- a last line of at most three numbers of at most k digits
+pub totals_short : (k : ℕ) (numbers : List ℕ) (largest : ℕ) → 0 < k → k < 20 → 10 ^ k ≤ 2 ^ 64 → length numbers ≤ 3 → ((i : ℕ) → i < length numbers → get_or numbers i 0 < 10 ^ k) → largest < 10000
+    → length (totals numbers (Ok (Accepted largest))) ≤ 100
+totals_short k numbers v p small w few h l =
+    let e = spaced_short k numbers p w h in
+    let most : (k + 1) * length numbers ≤ 20 * 3 = mul-le (k + 1) (length numbers) 20 3 (omega arith) few in
+    let t = accepted_short v l in
+    let x = length-append (codes "total") (spaced numbers ++ (verdict_text (Ok (Accepted v)) ++ (10 ∷ []))) in
+    let y = length-append (spaced numbers) (verdict_text (Ok (Accepted v)) ++ (10 ∷ [])) in
+    let z = length-append (verdict_text (Ok (Accepted v))) (10 ∷ []) in
+    omega arith
+
 module _ (m : Map) where
   contenders_lt : (n : ℕ) → contender_count m n < 100
   contenders_lt n = let l = contenders_le m n in omega arith
@@ -78,23 +91,12 @@ module _ (m : Map) where
       lines_short (λ n. row_line (columns m n (slots n))) 12 k
       (λ n q. row_short 2 (columns m n (slots n)) (omega arith) (omega arith) (columns_lt n (slots n) (omega arith) (h n q)))
 
-  totals_short : (largest : ℕ) → largest < 10000 → length (totals m (Ok (Accepted largest))) ≤ 100
-  totals_short v l =
-      let k = m.most in
-      let numbers = nodes m ∷ (link_count m ∷ (contending_pairs m ∷ [])) in
-      let e = spaced_short 4 (nodes m ∷ (link_count m ∷ (contending_pairs m ∷ []))) (omega arith) (omega arith)
-      (three 10000 (nodes m) (link_count m) (contending_pairs m) (omega arith) (pairs_lt (linked m)) (pairs_lt (contend m))) in
-      let t = accepted_short v l in
-      let x = length-append (codes "total") (spaced numbers ++ (verdict_text (Ok (Accepted v)) ++ (10 ∷ []))) in
-      let y = length-append (spaced numbers) (verdict_text (Ok (Accepted v)) ++ (10 ∷ [])) in
-      let z = length-append (verdict_text (Ok (Accepted v))) (10 ∷ []) in
-      omega arith
-
   pub overview_short : length (overview m) ≤ 1024
   overview_short =
       let k = m.most in
       let f = max_le (slot_of m) (nodes m) 64 (λ i l. slot_le m i l) in
       let r = rows_short (slot_of m) (nodes m) m.most (λ i l. let s = slot_le m i l in omega arith) in
-      let t = totals_short (frame m) (omega arith) in
-      let e = length-append (rows m (slot_of m) (nodes m)) (totals m (Ok (Accepted (frame m)))) in
+      let t = totals_short 4 (sizes m) (frame m) (omega arith) (omega arith) (omega arith) (omega arith)
+      (three 10000 (nodes m) (link_count m) (contending_pairs m) (omega arith) (pairs_lt (linked m)) (pairs_lt (contend m))) (omega arith) in
+      let e = length-append (rows m (slot_of m) (nodes m)) (totals (sizes m) (Ok (Accepted (frame m)))) in
       omega arith

@@ -42,13 +42,17 @@ verdict_text (Ok (Accepted largest)) = spaced (largest ∷ []) ++ codes " accept
 verdict_text (Ok (Clash pair)) = codes " clash" ++ spaced (pair.0 ∷ (pair.1 ∷ []))
 verdict_text (Err e) = codes " refused" ++ spaced ((entry e).number ∷ [])
 
--- the last line: nodes, links, contending pairs, and the verdict
-abbrev pub totals : Map → Result Verdict Refusal → List ℕ
-totals m verdict = codes "total" ++ (spaced (nodes m ∷ (link_count m ∷ (contending_pairs m ∷ []))) ++ (verdict_text verdict ++ (10 ∷ [])))
+-- the last line: numbers, and the verdict
+abbrev pub totals : List ℕ → Result Verdict Refusal → List ℕ
+totals numbers verdict = codes "total" ++ (spaced numbers ++ (verdict_text verdict ++ (10 ∷ [])))
+
+-- nodes, links and contending pairs
+abbrev pub sizes : Map → List ℕ
+sizes m = nodes m ∷ (link_count m ∷ (contending_pairs m ∷ []))
 
 -- the slots of the nodes planned in rising order are always accepted
 abbrev pub overview : Map → List ℕ
-overview m = rows m (slot_of m) (nodes m) ++ totals m (Ok (Accepted (frame m)))
+overview m = rows m (slot_of m) (nodes m) ++ totals (sizes m) (Ok (Accepted (frame m)))
 
 -- what is printed of a job: the overview of the map that it describes, or why it is refused
 abbrev pub Reported : List ℕ → List ℕ → Type 0

@@ -11,13 +11,13 @@ use records::build;
 use rules::NodeRule;
 use schedule::check;
 use text::Text;
-use writing::{push_rows, push_totals};
+use writing::{push_rows, sizes};
 
 mod planning;
 mod writing;
 
 pub use planning::planned;
-pub use writing::push_verdict;
+pub use writing::{push_totals, push_verdict};
 
 fn describe(map: &Map) -> Text
     ensures { written result ≡ overview map.now }
@@ -26,7 +26,7 @@ fn describe(map: &Map) -> Text
     let verdict = check(&NodeRule::new(map), &slots);
     let mut text = Text::new();
     push_rows(&mut text, map, &slots);
-    push_totals(&mut text, map, verdict);
+    push_totals(&mut text, &sizes(map), verdict);
     text
 }
 

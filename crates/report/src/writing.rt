@@ -1,7 +1,7 @@
 //! The lines of a report.
 ghost use Rattle.std.specs.Prelude.{◌≡◌, ◌<◌, ◌++◌, slice_index};
 ghost use Rattle.map.specs.View.{nodes};
-ghost use Rattle.report.specs.Overview.{columns, contending_pairs, rows, totals, verdict_text};
+ghost use Rattle.report.specs.Overview.{columns, contending_pairs, rows, sizes, totals, verdict_text};
 ghost use Rattle.schedule.specs.Order.{entries};
 ghost use Rattle.text.specs.Written.{clip, written};
 
@@ -65,15 +65,21 @@ pub fn push_verdict(text: &mut Text, verdict: Result<Verdict, Refusal>)
     }
 }
 
-/// The last line: the numbers of nodes, of links and of contending pairs, and the verdict.
-pub(crate) fn push_totals(text: &mut Text, map: &Map, verdict: Result<Verdict, Refusal>)
-    ensures { written text.new ≡ clip (written text.old ++ totals map.now verdict) }
+/// Writes the last line of a report: "total", the numbers and the verdict, each after one space.
+pub fn push_totals(text: &mut Text, numbers: &[usize], verdict: Result<Verdict, Refusal>)
+    ensures { written text.new ≡ clip (written text.old ++ totals numbers.now verdict) }
+{
+    text.push_str("total");
+    text.push_numbers(numbers);
+    push_verdict(text, verdict);
+    text.push(b'\n');
+}
+
+/// The numbers of nodes, of links and of contending pairs.
+pub(crate) fn sizes(map: &Map) -> [usize; 3]
+    ensures { result ≡ sizes map.now }
 {
     let nodes = usize::from(map.count());
     let links = usize::from(map.links());
-    let pairs = contending_pairs(map);
-    text.push_str("total");
-    text.push_numbers(&[nodes, links, pairs]);
-    push_verdict(text, verdict);
-    text.push(b'\n');
+    [nodes, links, contending_pairs(map)]
 }
