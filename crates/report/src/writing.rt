@@ -34,12 +34,12 @@ fn columns(map: &Map, n: u8, slot: u16) -> [usize; 4]
 pub(crate) fn push_rows(text: &mut Text, map: &Map, slots: &[u16; 64])
     ensures { written text.new ≡ clip (written text.old ++ rows map.now (entries slots.now) (nodes map.now)) }
 {
-    let rows: [[usize; 4]; 64] = array::from_fn(|n|
-        requires { n < 64 }
-        ensures { result ≡ columns map.entry.now n (slice_index slots.entry.now n) }
-    {
-        columns(map, n as u8, slots[n])
-    });
+    let rows: [[usize; 4]; 64] = array::from_fn(
+        |n|
+            requires { n < 64 }
+            ensures { result ≡ columns map.entry.now n (slice_index slots.entry.now n) }
+        { columns(map, n as u8, slots[n]) },
+    );
     text.push_rows(&rows[..usize::from(map.count())]);
 }
 
