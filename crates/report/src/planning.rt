@@ -21,6 +21,6 @@ pub fn planned(map: &Map) -> [u16; 64]
     let order: [u16; 64] = array::from_fn(|i| i as u16);
     let count = usize::from(map.count());
     let mut slots = [0u16; 64];
-    let _ = plan(&NodeRule::new(map), &order[0..count], &mut slots);
+    let _ = plan(&NodeRule::new(map), &order[..count], &mut slots);
     slots
 }

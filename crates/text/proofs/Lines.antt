@@ -70,6 +70,17 @@ spaced_short k (n ∷ ns) p w h =
 pub line_end_short : (k : ℕ) (ns : List ℕ) → 0 < k → 10 ^ k ≤ 2 ^ 64 → ((i : ℕ) → i < length ns → get_or ns i 0 < 10 ^ k) → length (line_end ns) ≤ (k + 1) * length ns + 1
 line_end_short k ns p w h = let l = spaced_short k ns p w h in let e = length-append (spaced ns) (10 ∷ []) in omega arith
 
+-- numbers with one space between two
+pub row_short : (k : ℕ) (ns : List ℕ) → 0 < k → 10 ^ k ≤ 2 ^ 64 → ((i : ℕ) → i < length ns → get_or ns i 0 < 10 ^ k) → length (row_line ns) ≤ (k + 1) * length ns
+row_short k [] p w h = omega arith
+row_short k (n ∷ ns) p w h =
+    let a = h 0 (omega arith) in
+    let d = length-decimal-le k n p a (omega arith) in
+    let l = line_end_short k ns p w (λ i q. h (suc i) (omega arith)) in
+    let e = length-append (decimal n) (line_end ns) in
+    let m : (k + 1) * suc (length ns) ≡ (k + 1) * length ns + (k + 1) = mul-suc (k + 1) (length ns) in
+    omega arith
+
 -- one, two and three numbers below a bound
 
 pub one : (bound a : ℕ) → a < bound → (i : ℕ) → i < 1 → get_or (a ∷ []) i 0 < bound

@@ -15,7 +15,9 @@ impl Text {
     pub fn new() -> Text
         ensures { written result ≡ [] }
     {
-        Text { bytes: Bounded::new(0) }
+        Text {
+            bytes: Bounded::new(0),
+        }
     }
 
     /// The bytes written so far.
