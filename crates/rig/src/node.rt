@@ -2,7 +2,7 @@
 use marks::Marks;
 
 /// What a node is doing.
-#[derive(Clone, Copy)]
+#[derive(Clone, Copy, Debug, PartialEq, Eq)]
 pub enum Phase {
     /// Nothing, and it has no slot.
     Idle,
