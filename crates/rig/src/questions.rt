@@ -56,9 +56,10 @@ impl Rig {
     pub fn slots(&self) -> [u16; 64]
         ensures { Slots self.now result }
     {
-        let mut table = [0u16; 64];
-        for k in 0..self.map.count() {
-            table[k as usize] = u16::from(self.nodes[k as usize].slot);
+        let nodes = &self.nodes[..self.map.count() as usize];
+        let mut table = [0; 64];
+        for (k, node) in nodes.iter().enumerate() {
+            table[k] = u16::from(node.slot);
         }
         table
     }
