@@ -56,6 +56,10 @@ release slot round a b = plain 4 round slot a b
 abbrev pub fail : ℕ → ℕ → ℕ → Message
 fail round a b = plain 5 round 0 a b
 
+-- the message, to b
+abbrev pub addressed : Message → ℕ → Message
+addressed x b = record { kind = x.kind; sender = x.sender; receiver = b; round = x.round; slot = x.slot; slots = x.slots }
+
 -- the slots that a grant holds: those heard, and the node's own if it has one
 unfoldable pub offered : Node → Marks
 offered v = cond (v.slot == 0) v.heard (added v.heard (v.slot - 1))
@@ -106,6 +110,10 @@ module _ (m : Map) where
   abbrev pub to_all : ℕ → (ℕ → Message) → List Message
   to_all k f = each (linked m k) f (nodes m)
 
+  -- the neighbours of k that are not marked
+  abbrev pub lacks : Marks → ℕ → ℕ → Bool
+  lacks s k j = linked m k j && not (marked s j)
+
   -- node k gives its round up: it goes idle, and sends fail to all
   abbrev pub gave_up : Board → ℕ → Board
   gave_up b k = put b k (phased (at b k) Idle)
@@ -152,7 +160,7 @@ module _ (m : Map) where
 
   -- the neighbours of k that have not granted
   abbrev pub unmarked : Node → ℕ → ℕ → Bool
-  unmarked v k j = linked m k j && not (marked v.granted j)
+  unmarked v k j = lacks v.granted k j
 
   -- those that a node in request asks again
   abbrev pub asked_again : Board → ℕ → List Message

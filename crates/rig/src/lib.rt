@@ -13,11 +13,12 @@ mod questions;
 mod receiving;
 mod sending;
 mod settling;
+mod stepping;
 
 pub use node::{Node, Phase};
 
 /// What came of a draw that was not refused.
-#[derive(Clone, Copy)]
+#[derive(Clone, Copy, Debug, PartialEq, Eq)]
 pub enum Lottery {
     /// It lost, and nothing changed.
     Lost,
