@@ -1,5 +1,5 @@
 -- A delivery keeps the invariant.
-use Rattle.std.proofs.Common.{◌≡◌, ℕ, suc, ◌-◌, ◌<◌, ◌≤◌, true, false, cond, not, ◌&&◌, ◌||◌, eqb, ltb, ◌⊎◌, List, [], ◌∷◌, Some, None, Ok, Err, Option, sym, refl, ap, ◌∙◌, subst, inl, inr, ⊎_elim, arith}
+use Rattle.std.proofs.Common.{◌≡◌, ℕ, suc, ◌-◌, ◌<◌, ◌≤◌, true, false, cond, not, ◌&&◌, ◌||◌, eqb, ltb, ◌⊎◌, List, [], ◌∷◌, Some, None, Err, Option, sym, refl, ap, ◌∙◌, subst, inl, inr, ⊎_elim, arith}
 use Rattle.std.proofs.lemmas.Bool.{both_ways, cases_Bool, cases_eq, cases_lt, and_parts, and_from, or_parts, not-true, not-false, eq-eqb, eqb-true, eqb-false, ltb-false, cond_both}
 use Rattle.marks.specs.Below.{some_below}
 use Rattle.marks.specs.declared.Marks.{Marks}
@@ -8,6 +8,8 @@ use Rattle.refusal.specs.declared.Refusal.{Refusal}
 use Rattle.map.specs.View.{linked, nodes}
 use Rattle.map.specs.declared.Map.{Map}
 use Rattle.schedule.proofs.Slots.{some_at}
+use Rattle.radio.specs.declared.kind.Kind.{Kind}
+use Rattle.radio.specs.declared.kind.Kind.TheVariants.{Grant as GrantKind, Release as ReleaseKind, Fail as FailKind}
 use Rattle.radio.specs.declared.message.Message.{Message}
 use Rattle.rig.specs.declared.node.Node.{Node}
 use Rattle.rig.specs.declared.node.Phase.{Phase}
@@ -85,8 +87,8 @@ module _ (m : Map) (b : Board) (f : Fine m b) where
 
     -- a grant that comes too late
     good_late : x.kind ≡ 2 → waits (at b x.receiver) x.round ≡ false → Good m b (cond (not (eqb (at b x.receiver).slot 0) && eqb (at b x.receiver).dated x.round)
-        (sends m b (release (at b x.receiver).slot x.round x.receiver x.sender ∷ []) 2)
-        (sends m b (fail x.round x.receiver x.sender ∷ []) 2))
+        (sends m b (release (at b x.receiver).slot x.round x.receiver x.sender ∷ []) GrantKind)
+        (sends m b (fail x.round x.receiver x.sender ∷ []) GrantKind))
     good_late e w = cond_both (not (eqb (at b x.receiver).slot 0) && eqb (at b x.receiver).dated x.round) _ _ (Good m b)
         (λ h. good_stay m b _ f refl (one_sent m b _ (told (and_parts (not (eqb (at b x.receiver).slot 0)) (eqb (at b x.receiver).dated x.round) h))))
         (λ h. good_stay m b _ f refl (one_sent m b _ (fail_true m (at b) x.round x.receiver x.sender back (gone h (cases_lt x.round (at b x.receiver).round)))))
@@ -121,9 +123,9 @@ module _ (m : Map) (b : Board) (f : Fine m b) where
         keeps_put m b f x.receiver _ inside (grows (linked m) (at b) f.nodes x.receiver m.apart live.0 x.sender x.slots
         (subst (λ (r : ℕ). Held (linked m) (at b) x.sender x.receiver r x.slots) (sym live.1) held) sound)
 
-    good_count : x.kind ≡ 2 → waits (at b x.receiver) x.round ≡ true → Good m b (cond (complete m (counts m b x) x.receiver) (sends m (settled m (counts m b x) x.receiver) (settled_sent m (counts m b x) x.receiver) 2) (sends m (counts m b x) [] 2))
+    good_count : x.kind ≡ 2 → waits (at b x.receiver) x.round ≡ true → Good m b (cond (complete m (counts m b x) x.receiver) (sends m (settled m (counts m b x) x.receiver) (settled_sent m (counts m b x) x.receiver) GrantKind) (sends m (counts m b x) [] GrantKind))
     good_count e w = cond_both (complete m (counts m b x) x.receiver) _ _ (Good m b)
-        (λ h. good_after m b (counts m b x) _ kept same (good_settle m (counts m b x) kept.fine x.receiver inside (ap (λ (v : Node). v.phase) at_k ∙ live.0) (all h) (Ok 2)))
+        (λ h. good_after m b (counts m b x) _ kept same (good_settle m (counts m b x) kept.fine x.receiver inside (ap (λ (v : Node). v.phase) at_k ∙ live.0) (all h) _))
         (λ _. record { keeps = kept; sent = none_sent m; moved = inl same })
       where
         live : Live (at b x.receiver) x.round
@@ -152,11 +154,11 @@ module _ (m : Map) (b : Board) (f : Fine m b) where
 
     good_reject : Good m b (on_reject m b x)
     good_reject = cond_both (waits (at b x.receiver) x.round) _ _ (Good m b)
-        (λ w. good_up m b f x.receiver inside (waits_live (at b x.receiver) x.round w).0 (Ok 3))
+        (λ w. good_up m b f x.receiver inside (waits_live (at b x.receiver) x.round w).0 _)
         (λ _. good_stay m b _ f refl (none_sent m))
 
-    good_frees : (Live (at b x.sender) x.round → ⊥) → ((j : ℕ) → (at b x.sender).slot ≡ suc j → x.round ≡ (at b x.sender).round → marked (at b x.receiver).heard j ≡ true) → (o : ℕ) → Good m b (sends m (frees m b x) [] o)
-    good_frees over known o = cond_both (serves (at b x.receiver) x.sender x.round) _ _ (λ c. Good m b (sends m c [] o))
+    good_frees : (Live (at b x.sender) x.round → ⊥) → ((j : ℕ) → (at b x.sender).slot ≡ suc j → x.round ≡ (at b x.sender).round → marked (at b x.receiver).heard j ≡ true) → (kind : Kind) → Good m b (sends m (frees m b x) [] kind)
+    good_frees over known kind = cond_both (serves (at b x.receiver) x.sender x.round) _ _ (λ c. Good m b (sends m c [] kind))
         (λ h. record {
           keeps = keeps_put m b f x.receiver (freed (at b x.receiver)) inside (opens (linked m) (at b) f.nodes x.receiver x.sender x.round (serves_locks (at b x.receiver) x.sender x.round h) over known);
           sent = none_sent m;
@@ -164,8 +166,8 @@ module _ (m : Map) (b : Board) (f : Fine m b) where
         })
         (λ _. good_stay m b _ f refl (none_sent m))
 
-    good_fail : x.kind ≡ 5 → Good m b (sends m (frees m b x) [] 5)
-    good_fail e = good_frees (λ live. over live (fact.fails e)) (λ j s r. known j s r (fact.fails e)) 5
+    good_fail : x.kind ≡ 5 → Good m b (sends m (frees m b x) [] FailKind)
+    good_fail e = good_frees (λ live. over live (fact.fails e)) (λ j s r. known j s r (fact.fails e)) FailKind
       where
         over : Live (at b x.sender) x.round → Gone (at b x.sender) x.round → ⊥
         over live (inl l) = let q = live.1 in omega arith
@@ -176,8 +178,8 @@ module _ (m : Map) (b : Board) (f : Fine m b) where
         known j s r (inr (_, _, z)) = not_zero (at b x.sender).slot j z s
 
 module _ (m : Map) (b : Board) (f : Fine m b) where
-  good_release : (x : Message) → Fact (linked m) (at b) x → linked m x.sender x.receiver ≡ true → x.kind ≡ 4 → Good m b (sends m (frees m (hears m b x) x) [] 4)
-  good_release x fact link e = good_after m b (hears m b x) _ kept same (good_frees m (hears m b x) kept.fine x (kept.facts x fact) link over known 4)
+  good_release : (x : Message) → Fact (linked m) (at b) x → linked m x.sender x.receiver ≡ true → x.kind ≡ 4 → Good m b (sends m (frees m (hears m b x) x) [] ReleaseKind)
+  good_release x fact link e = good_after m b (hears m b x) _ kept same (good_frees m (hears m b x) kept.fine x (kept.facts x fact) link over known ReleaseKind)
     where
       in_map : x.receiver < nodes m
       in_map = m.within x.receiver x.sender (m.both x.receiver x.sender ∙ link)
@@ -218,8 +220,8 @@ record Answers {A : Type 0} (a : After A) : Type 0 where
   ok : (e : Refusal) → a.answer ≡ Err e → ⊥
 
 module _ (m : Map) where
-  sends_ok : (b : Board) (out : List Message) (kind : ℕ) → Answers (sends m b out kind)
-  sends_ok b out kind = record { ok = λ e h. let z : ◌≡◌ {A = ℕ} 0 1 = cc in omega arith }
+  sends_ok : (b : Board) (out : List Message) (kind : Kind) → Answers (sends m b out kind)
+  sends_ok b out kind = record { ok = λ e h. cc }
 
   module _ (b : Board) (x : Message) where
     request_ok : (p : Phase) → Answers (on_request m b x p)
@@ -243,5 +245,5 @@ module _ (m : Map) where
         (λ _. cond_both (eqb x.kind 4) _ _ Answers (λ _. sends_ok _ _ _) (λ _. sends_ok _ _ _)))))
 
   pub delivered_ok : (b : Board) (o : Option Message) → ((x : Message) → o ≡ Some x → foreign m x ≡ false) → (e : Refusal) → (delivered m b o).answer ≡ Err e → ⊥
-  delivered_ok b None n = (sends_ok b [] 0).ok
+  delivered_ok b None n = λ e h. cc
   delivered_ok b (Some x) n = (received_ok b x (n x refl)).ok

@@ -28,12 +28,7 @@ fn decider(before: &Rig, after: &Rig) -> Option<u8>
 {
     let old = before.slots();
     let new = after.slots();
-    for k in 0..after.map().count() {
-        if old[k as usize] == 0 && new[k as usize] != 0 {
-            return Some(k);
-        }
-    }
-    None
+    (0..after.map().count()).find(|&k| old[usize::from(k)] == 0 && new[usize::from(k)] != 0)
 }
 
 // Writes a node at a place, if there is one; the place after it.
@@ -73,9 +68,10 @@ pub fn perform<R: Radio>(
     let mut rig = Rig::new();
     rig.open(map);
     let mut decided = 0;
-    for i in 0..calls.len() {
+    // The answers go by index: of what a zip of `iter_mut` wrote, nothing can be proved.
+    for (i, &call) in calls.iter().enumerate() {
         let before = rig;
-        answers[i] = make(&mut rig, radio, calls[i]);
+        answers[i] = make(&mut rig, radio, call);
         decided = append(order, decided, decider(&before, &rig));
     }
     Ok(Performed { rig, decided })
