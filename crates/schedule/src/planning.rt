@@ -18,10 +18,10 @@ fn held<C: ClashRule>(rule: &C, slots: &[u16], a: usize, slot: u16) -> bool
 // The smallest slot from 1 that no item clashing with `a` holds. As many slots as a rule can have
 // items can all be held, and then the next one is free.
 fn lowest<C: ClashRule>(rule: &C, slots: &[u16], a: usize) -> u16
-    requires few { (length slots.now ≤ C.MOST) × (C.MOST ≤ 512) }
+    requires few { (length slots.now ≤ C.most) × (C.most ≤ 512) }
     ensures { result ≡ least (C.clash rule.now) (length slots.now) (entries slots.now) a }
 {
-    let last = C::MOST as u16 + 1;
+    let last = C::limit() as u16 + 1;
     (1..last)
         .find(|slot| !held(rule, slots, a, *slot))
         .unwrap_or(last)

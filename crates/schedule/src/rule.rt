@@ -10,11 +10,17 @@ pub trait ClashRule {
     /// The most items that a map can have under this rule.
     const MOST: usize;
 
-    ghost MOST: { ℕ };
+    // What `MOST` is, for clauses: an impl on a type with a lifetime can give no constant that
+    // clauses cite.
+    ghost most: { ℕ };
 
     ghost items: { Self → ℕ };
 
     ghost clash: { Self → ℕ → ℕ → Bool };
+
+    /// `MOST`, where a proof has to know it.
+    fn limit() -> usize
+        ensures { result ≡ most };
 
     /// The number of items.
     fn count(&self) -> usize
@@ -24,13 +30,13 @@ pub trait ClashRule {
     fn clashes(&self, a: usize, b: usize) -> bool
         ensures { result ≡ clash self.now a b };
 
-    ghost laws: { Laws items clash MOST };
+    ghost laws: { Laws items clash most };
 }
 
 // The number of items, which the rule's limit bounds.
 pub(crate) fn bounded<C: ClashRule>(rule: &C) -> usize
     ensures value { result ≡ C.items rule.now }
-    ensures bound { (result ≤ C.MOST) × (C.MOST ≤ 512) }
+    ensures bound { (result ≤ C.most) × (C.most ≤ 512) }
 {
     rule.count()
 }

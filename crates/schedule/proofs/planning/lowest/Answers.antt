@@ -11,6 +11,6 @@ returns g c =
     let n = length c.args.slots.now in
     let f = entries c.args.slots.now in
     c.unwrap_or.ensures
-    ∙ least_search clash n f c.args.a c.MOST.result (omega (arith, c.MOST.ensures, c.requires.few.0)) c.find.result
+    ∙ least_search clash n f c.args.a c.limit.result (omega (arith, c.limit.ensures, c.requires.few.0)) c.find.result
     (first_from_Range _ _ _ c.find.result (λ s. holds clash n f c.args.a s ≡ false) (λ s. holds clash n f c.args.a s ≡ true)
     c.find.ensures.ran (λ x q k. search (rules, tests)) (λ x q k. search (rules, tests)))
