@@ -1,17 +1,21 @@
 -- Deliveries one by one, and events one by one.
-use Rattle.std.proofs.Common.{◌≡◌, ℕ, suc, ◌+◌, ◌-◌, ◌*◌, ◌<◌, ◌≤◌, Bool, true, false, cond, List, sym, refl, ap, ◌∙◌, arith}
+use Rattle.std.proofs.Common.{Some, None, ◌≡◌, ℕ, suc, ◌+◌, ◌-◌, ◌<◌, ◌≤◌, Bool, true, false, cond, List, sym, refl, ap, ◌∙◌, arith}
 use Rattle.std.specs.Option.{option_to_list}
 use Rattle.map.specs.declared.Map.{Map}
-use Rattle.records.specs.Fields.{record_at, taken}
+use denote.Ref.{Bor}
+use Rattle.records.specs.declared.reading.Reader.{Reader}
+use Rattle.records.specs.Fields.{records, handed, taken}
+use Rattle.records.specs.Reading.{Hands}
+use Rattle.records.proofs.Fronts.{here, step, handed_none}
 use Rattle.radio.specs.Ways.{Ways}
 use Rattle.law.specs.declared.Answer.{Answer}
 use Rattle.law.specs.declared.Call.TheVariants.{Deliver}
 use Rattle.script.specs.declared.Event.{Event}
-use Rattle.script.specs.Script.{event_of, event_at, events_to}
+use Rattle.script.specs.Script.{event_of, event_at, events_to, events}
 use Rattle.script.proofs.EventLists.{events_none, events_more}
 use Rattle.job.specs.declared.playing.Play.{Play}
 use Rattle.job.specs.Play.{Stand, fresh, nothing, answered, called, up_to, plays}
-use Rattle.job.specs.Stands.{Went, stand}
+use Rattle.job.specs.Stands.{Room, Went, stand}
 use Rattle.job.proofs.Counts.{counted, called_few, plays_then, events_few}
 
 module _ {S : Type 0} (w : Ways S) where
@@ -68,24 +72,36 @@ module _ {S : Type 0} (w : Ways S) where
   -- records
 
   module _ (m : Map) (job : List ℕ) (s₀ : S) where
-    -- the events of the first k records are played
-    pub record Through (k : ℕ) (p : Play) (s : S) : Type 0 where
+    -- the events of the records that a reader of the job has handed out are played
+    pub record Through (r : Reader) (p : Play) (s : S) : Type 0 where
+      pub same : r.job.now ≡ job
       pub map : p.rig.map ≡ m
-      pub after : stand p s ≡ plays w m (events_to job k) (fresh s₀)
+      pub after : stand p s ≡ plays w m (events_to job r.place) (fresh s₀)
 
-    pub through_none : (k : ℕ) (p : Play) → k ≡ 0 → p.rig.map ≡ m → stand p s₀ ≡ fresh s₀ → Through k p s₀
-    through_none k p z e d = record { map = e; after = d ∙ ap (λ (es : List Event). plays w m es (fresh s₀)) (sym (ap (events_to job) z ∙ events_none job)) }
+    pub through_none : (r : Reader) (p : Play) → r.job.now ≡ job → r.place ≡ 0 → p.rig.map ≡ m → stand p s₀ ≡ fresh s₀ → Through r p s₀
+    through_none r p same z e d = record { same = same; map = e; after = d ∙ ap (λ (es : List Event). plays w m es (fresh s₀)) (sym (ap (events_to job) z ∙ events_none job)) }
 
-    pub through_more : (k k' : ℕ) (p p' : Play) (s s' : S) (bytes : List ℕ) → k' ≡ k + 1 → Through k p s → bytes ≡ record_at job k
-        → Went p p' s' (plays w p.rig.map (option_to_list (event_of (taken bytes))) (stand p s)) → Through k' p' s'
-    through_more k k' p p' s s' bytes on t e went = record {
-      map = went.map ∙ t.map;
-      after = went.after ∙ ap (λ (x : Map). plays w x (option_to_list (event_of (taken bytes))) (stand p s)) t.map
-          ∙ ap (λ (x : List ℕ). plays w m (option_to_list (event_of (taken x))) (stand p s)) e
-          ∙ ap (plays w m (option_to_list (event_at job k))) t.after
-          ∙ sym (plays_then w m (events_to job k) (option_to_list (event_at job k)) (fresh s₀)) ∙ ap (λ (es : List Event). plays w m es (fresh s₀)) (sym (ap (events_to job) on ∙ events_more job k));
-    }
+    module _ {r r' : Reader} {p : Play} {s : S} (t : Through r p s) where
+      -- one record more
+      pub through_more : {x : Bor (List ℕ)} {p' : Play} {s' : S} → Hands r (Some x) r' → Went p p' s' (plays w p.rig.map (option_to_list (event_of (taken x.now))) (stand p s)) → Through r' p' s'
+      through_more {x} h went = record {
+        same = h.job ∙ t.same;
+        map = went.map ∙ t.map;
+        after = went.after ∙ ap (λ (k : Map). plays w k (option_to_list (event_of (taken x.now))) (stand p s)) t.map
+            ∙ ap (λ (xs : List ℕ). plays w m (option_to_list (event_of (taken xs))) (stand p s)) (here t.same h).1
+            ∙ ap (plays w m (option_to_list (event_at job r.place))) t.after
+            ∙ sym (plays_then w m (events_to job r.place) (option_to_list (event_at job r.place)) (fresh s₀))
+            ∙ ap (λ (es : List Event). plays w m es (fresh s₀)) (sym (ap (events_to job) (step t.same h) ∙ events_more job r.place));
+      }
 
-    -- so far 4096 calls for each record at most
-    pub through_few : (k : ℕ) (p : Play) (s : S) → Through k p s → p.came + p.refused ≤ 4096 * k
-    through_few k p s t = let f = events_few w m job s₀ k in let e = ap counted t.after in omega arith
+      -- 4096 calls for each record so far, at most: the next one has room
+      pub through_room : {x : Bor (List ℕ)} → Hands r (Some x) r' → records job ≤ 4096 → Room p 4096
+      through_room h few = let inside = (here t.same h).0 in let f = events_few w m job s₀ r.place in let e = ap counted t.after in omega arith
+
+      -- all records
+      pub through_all : Hands r None r' → stand p s ≡ plays w m (events job) (fresh s₀)
+      through_all h =
+          let past = handed_none job r.place (h.value ∙ ap (λ (b : List ℕ). handed b r.place) t.same) in
+          let inside = r.inside in
+          let few = ap records t.same in
+          t.after ∙ ap (λ (k : ℕ). plays w m (events_to job k) (fresh s₀)) (let e : r.place ≡ records job = omega arith in e)

@@ -90,8 +90,7 @@ pub(crate) fn play_all<R: Radio>(map: &Map, radio: &mut R, job: &[u8]) -> Play
         came: 0,
         refused: 0,
     };
-    let mut reader = Reader::new(job);
-    while let Some(record) = reader.next() {
+    for record in Reader::new(job) {
         play.take(radio, record);
     }
     play
