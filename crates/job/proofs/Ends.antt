@@ -24,7 +24,11 @@ use Rattle.script.specs.Script.{good, described, seed_of, events}
 use Rattle.script.specs.declared.Event.{Event}
 use Rattle.job.specs.Play.{Stand, fresh, plays, PlaysOut}
 use Rattle.job.specs.Listing.{Lists, Printed, coin, listing, listed_over, listed, PlaysOutOver, JobRuns}
-use Rattle.job.proofs.Rooms.{Short}
+use Rattle.job.specs.declared.playing.Play.{Play}
+use Rattle.job.specs.Stands.{stand, shown}
+use Rattle.job.proofs.Counts.{counted, events_few}
+use Rattle.job.proofs.Trails.{settles}
+use Rattle.job.proofs.Rooms.{Short, listing_short}
 
 -- the largest of a table
 
@@ -53,12 +57,30 @@ pub printed : (job : List ℕ) (r : Result Text Refusal) (text : Text) → Lists
 printed job (Ok t) text (m, runs, is) same = inl (m, runs, ap written same ∙ is)
 printed job (Err e) text why is = inr (e, why, is ∙ take_all 1024 (refused_line e) (refused_short e (unfit_index (good job) job e why)))
 
--- in the end of a run no number of a node is too long for a listing
-pub short_end : {S : Type 0} (w : Ways S) → AirRule w → (m : Map) (es : List Event) (t : Stand S) → PlaysOut w m es t → (m' : Map) (b : Board) → m' ≡ m → b ≡ t.nodes → (k : ℕ) → k < nodes m' → Short b k
-short_end w rule m es t s m' b em eb k l =
-    let i = holds w rule m s.run.empty s.run.made in
-    let inside = subst (λ (x : Map). k < nodes x) em l in
-    subst (λ (x : Board). Short x k) (sym eb) (record { slot = i.fine.nodes.small k; turn = turn_few w rule m s.order t.nodes t.radio i k inside; round = i.fine.nodes.few k })
+-- the end of a job, whose listing has space in a text
+
+module _ {S : Type 0} (w : Ways S) (rule : AirRule w) (m : Map) (job : List ℕ) (s₀ : S) (empty : w.air s₀ ≡ []) where
+  abbrev pub end : Stand S
+  end = plays w m (events job) (fresh s₀)
+
+  pub plays_out : PlaysOut w m (events job) end
+  plays_out = settles w m s₀ rule empty (events job)
+
+  end_short : (k : ℕ) → k < nodes m → Short end.nodes k
+  end_short k l =
+      let i = holds w rule m plays_out.run.empty plays_out.run.made in
+      record { slot = i.fine.nodes.small k; turn = turn_few w rule m plays_out.order end.nodes end.radio i k l; round = i.fine.nodes.few k }
+
+  module _ (p : Play) (s : S) (map : p.rig.map ≡ m) (after : stand p s ≡ end) where
+    pub lists : listing p.rig.map (shown p) ≡ listing m end
+    lists = ap (λ (x : Map). listing x (shown p)) map ∙ ap (λ (t : Stand S). listing m t) after
+
+    pub list_short : records job ≤ 4096 → length (listing p.rig.map (shown p)) ≤ 1024
+    list_short few =
+        let counts = events_few w m job s₀ (records job) in
+        let short = listing_short m end end_short (omega arith) in
+        let e = ap length lists in
+        omega arith
 
 -- over which radio
 
