@@ -1,7 +1,8 @@
 -- The events of a job make a run.
-use Rattle.std.proofs.Common.{◌≡◌, ℕ, zero, suc, ◌+◌, ◌<◌, Bool, true, false, cond, ◌⊎◌, List, [], ◌∷◌, ◌++◌, map, length, get_or, replicate, Ok, Result, sym, refl, ap, subst, inl, inr, append_assoc, append-nil, arith}
+use Rattle.std.proofs.Common.{◌≡◌, ℕ, zero, suc, ◌+◌, ◌<◌, Bool, true, false, cond, ◌⊎◌, List, [], ◌∷◌, ◌++◌, map, length, get_or, replicate, None, Ok, Option, Result, sym, refl, ap, subst, inl, inr, append_assoc, append-nil, arith}
 use Rattle.refusal.specs.declared.Refusal.{Refusal}
 use Rattle.map.specs.declared.Map.{Map}
+use Rattle.radio.specs.declared.kind.Kind.{Kind}
 use Rattle.radio.specs.Ways.{Ways, AirRule}
 use Rattle.rig.specs.Board.{new_board}
 use Rattle.rig.specs.Steps.{delivered, drawn, nudged}
@@ -40,11 +41,11 @@ module _ {S : Type 0} (w : Ways S) (m : Map) (s₀ : S) where
   -- up to n deliveries
 
   -- what a delivery answers
-  abbrev result : Stand S → Result ℕ Refusal
+  abbrev result : Stand S → Result (Option Kind) Refusal
   result t = (delivered m t.nodes (w.taken t.radio)).answer
 
   record Delivered_on (n : ℕ) (calls : List Call) (answers : List Answer) (t : Stand S) : Type 0 where
-    results : List (Result ℕ Refusal)
+    results : List (Result (Option Kind) Refusal)
     order : List ℕ
     fits : Delivers n results
     led : Led (calls ++ replicate (length results) Deliver) (answers ++ map Delivered results) order (up_to w m n t)
@@ -82,12 +83,12 @@ module _ {S : Type 0} (w : Ways S) (m : Map) (s₀ : S) where
         (subst (λ (x : List Answer). Led ((calls ++ (Deliver ∷ [])) ++ replicate (length d.results) Deliver) x d.order (up_to w m n (called w m t Deliver))) (append_assoc answers (Delivered (result t) ∷ []) (map Delivered d.results)) d.led));
   }
     where
-      before : (i : ℕ) → suc i < length (result t ∷ d.results) → nothing (Delivered (get_or (result t ∷ d.results) i (Ok 0))) ≡ false
+      before : (i : ℕ) → suc i < length (result t ∷ d.results) → nothing (Delivered (get_or (result t ∷ d.results) i (Ok None))) ≡ false
       before zero h = e
       before (suc i) h = d.fits.before i (omega arith)
 
-      last : (length d.results ≡ n) ⊎ ((i : ℕ) × (length d.results ≡ suc i) × (nothing (Delivered (get_or d.results i (Ok 0))) ≡ true))
-          → (length (result t ∷ d.results) ≡ suc n) ⊎ ((i : ℕ) × (length (result t ∷ d.results) ≡ suc i) × (nothing (Delivered (get_or (result t ∷ d.results) i (Ok 0))) ≡ true))
+      last : (length d.results ≡ n) ⊎ ((i : ℕ) × (length d.results ≡ suc i) × (nothing (Delivered (get_or d.results i (Ok None))) ≡ true))
+          → (length (result t ∷ d.results) ≡ suc n) ⊎ ((i : ℕ) × (length (result t ∷ d.results) ≡ suc i) × (nothing (Delivered (get_or (result t ∷ d.results) i (Ok None))) ≡ true))
       last (inl h) = inl (ap suc h)
       last (inr (i, h, q)) = inr (suc i, ap suc h, q)
 

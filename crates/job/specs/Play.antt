@@ -1,7 +1,8 @@
 -- What the events of a job make of a rig and its radio, and what is counted of them.
-use Rattle.std.specs.Prelude.{◌≡◌, ℕ, zero, suc, ◌+◌, ◌<◌, ◌≤◌, Bool, true, false, cond, ◌⊎◌, List, [], ◌∷◌, ◌++◌, map, length, replicate, Ok, Err, Result, ◌==◌, slice_index_or}
+use Rattle.std.specs.Prelude.{◌≡◌, ℕ, zero, suc, ◌+◌, ◌<◌, ◌≤◌, Bool, true, false, cond, ◌⊎◌, List, [], ◌∷◌, ◌++◌, map, length, replicate, Some, None, Ok, Err, Option, Result, slice_index_or}
 use Rattle.refusal.specs.declared.Refusal.{Refusal}
 use Rattle.map.specs.declared.Map.{Map}
+use Rattle.radio.specs.declared.kind.Kind.{Kind}
 use Rattle.radio.specs.Ways.{Ways}
 use Rattle.rig.specs.declared.Lottery.{Lottery}
 use Rattle.rig.specs.Board.{Board, new_board}
@@ -19,7 +20,8 @@ use Rattle.script.specs.declared.Event.TheVariants.{Draw as DrawEvent, Deliver a
 -- 1 for a delivery that brought a message
 abbrev pub brought : Answer → ℕ
 brought (Drawn _) = 0
-brought (Delivered (Ok kind)) = cond (kind == 0) 0 1
+brought (Delivered (Ok None)) = 0
+brought (Delivered (Ok (Some _))) = 1
 brought (Delivered (Err _)) = 0
 brought (Nudged _) = 0
 
@@ -36,7 +38,8 @@ failed (Nudged r) = refusals r
 -- a delivery that brought nothing
 abbrev pub nothing : Answer → Bool
 nothing (Drawn _) = false
-nothing (Delivered (Ok kind)) = kind == 0
+nothing (Delivered (Ok None)) = true
+nothing (Delivered (Ok (Some _))) = false
 nothing (Delivered (Err _)) = false
 nothing (Nudged _) = false
 
@@ -84,17 +87,17 @@ module _ {S : Type 0} (w : Ways S) (m : Map) where
 -- the events as a run
 
 -- the answers of one M with the number n: so many deliveries, of which all but the last brought something, and the last brought nothing unless there are n
-pub record Delivers (n : ℕ) (results : List (Result ℕ Refusal)) : Type 0 where
+pub record Delivers (n : ℕ) (results : List (Result (Option Kind) Refusal)) : Type 0 where
   pub most : length results ≤ n
-  pub before : (i : ℕ) → suc i < length results → nothing (Delivered (slice_index_or results i (Ok 0))) ≡ false
-  pub last : (length results ≡ n) ⊎ ((i : ℕ) × (length results ≡ suc i) × (nothing (Delivered (slice_index_or results i (Ok 0))) ≡ true))
+  pub before : (i : ℕ) → suc i < length results → nothing (Delivered (slice_index_or results i (Ok None))) ≡ false
+  pub last : (length results ≡ n) ⊎ ((i : ℕ) × (length results ≡ suc i) × (nothing (Delivered (slice_index_or results i (Ok None))) ≡ true))
 
 -- the calls that these events make, and their answers
 pub data Plays : List Event → List Call → List Answer → Type 0 where
   none : Plays [] [] []
   draws : {events : List Event} {calls : List Call} {answers : List Answer} → Plays events calls answers → (k v : ℕ) (r : Result Lottery Refusal)
       → Plays (events ++ (DrawEvent k v ∷ [])) (calls ++ (Draw k v ∷ [])) (answers ++ (Drawn r ∷ []))
-  delivers : {events : List Event} {calls : List Call} {answers : List Answer} → Plays events calls answers → (n : ℕ) (results : List (Result ℕ Refusal)) → Delivers n results
+  delivers : {events : List Event} {calls : List Call} {answers : List Answer} → Plays events calls answers → (n : ℕ) (results : List (Result (Option Kind) Refusal)) → Delivers n results
       → Plays (events ++ (DeliverEvent n ∷ [])) (calls ++ replicate (length results) Deliver) (answers ++ map Delivered results)
   nudges : {events : List Event} {calls : List Call} {answers : List Answer} → Plays events calls answers → (k : ℕ) (r : Result ℕ Refusal)
       → Plays (events ++ (NudgeEvent k ∷ [])) (calls ++ (Nudge k ∷ [])) (answers ++ (Nudged r ∷ []))

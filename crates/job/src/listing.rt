@@ -16,10 +16,11 @@ use text::Text;
 fn facts(rig: &Rig, k: u8) -> Result<[usize; 3], Refusal>
     ensures { result ≡ told rig.now k (λ v. v.slot ∷ (v.turn ∷ (v.round ∷ []))) }
 {
-    let slot = rig.slot(k)?;
-    let turn = rig.turn(k)?;
-    let round = rig.round(k)?;
-    Ok([slot as usize, turn as usize, round as usize])
+    Ok([
+        usize::from(rig.slot(k)?),
+        usize::from(rig.turn(k)?),
+        usize::from(rig.round(k)?),
+    ])
 }
 
 // The line of node `k`.
@@ -28,7 +29,7 @@ fn push_row(text: &mut Text, rig: &Rig, k: u8)
     ensures { written text.new ≡ clip (written text.old ++ row rig.now.nodes k) }
 {
     if let Ok(numbers) = facts(rig, k) {
-        text.push_number(k as usize);
+        text.push_number(usize::from(k));
         text.end_line(&numbers);
     }
 }
@@ -46,12 +47,7 @@ fn push_rows(text: &mut Text, rig: &Rig)
 fn largest(rig: &Rig) -> u16
     ensures { result ≡ frame rig.now.map rig.now.nodes }
 {
-    let slots = rig.slots();
-    let mut largest = 0;
-    for k in 0..rig.map().count() {
-        largest = largest.max(slots[k as usize]);
-    }
-    largest
+    rig.slots().iter().copied().max().unwrap_or(0)
 }
 
 /// A line for each node, and the line of what was counted.
@@ -62,10 +58,6 @@ pub(crate) fn list(play: &Play) -> Text
     let mut text = Text::new();
     push_rows(&mut text, &play.rig);
     text.push_str("end");
-    text.end_line(&[
-        play.came as usize,
-        play.refused as usize,
-        largest(&play.rig) as usize,
-    ]);
+    text.end_line(&[play.came, play.refused, usize::from(largest(&play.rig))]);
     text
 }

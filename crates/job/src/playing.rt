@@ -20,9 +20,9 @@ use script::Event;
 pub(crate) struct Play {
     pub(crate) rig: Rig,
     /// The deliveries that brought a message.
-    pub(crate) came: u32,
+    pub(crate) came: usize,
     /// The events that were refused.
-    pub(crate) refused: u32,
+    pub(crate) refused: usize,
 }
 
 impl Play {

@@ -40,10 +40,7 @@ fn listed(job: &[u8]) -> Result<Text, Refusal>
 pub fn print(job: &[u8]) -> Text
     ensures { Printed job.now (written result) }
 {
-    match listed(job) {
-        Ok(text) => text,
-        Err(refusal) => Text::of_refusal(refusal),
-    }
+    listed(job).unwrap_or_else(Text::of_refusal)
 }
 
 // Copies a text to the beginning of a buffer.

@@ -15,6 +15,6 @@ returns c =
     let last = written c.end_line.new.self in
     let ends : ℕ → List ℕ = λ v. line_end (c.args.play.now.came ∷ (c.args.play.now.refused ∷ (v ∷ []))) in
     whole s last (listing c.args.play.now.rig.map (shown c.args.play.now)) c.new-text.ensures c.requires
-    (and_then s first last (rows c.args.play.now.rig.nodes (nodes c.args.play.now.rig.map)) (codes "end" ++ ends c.largest.result) c.push_rows.ensures
-    (and_then first word last (codes "end") (ends c.largest.result) c.push_str.ensures c.end_line.ensures)
-    ∙ ap (λ (v : ℕ). clip (s ++ (rows c.args.play.now.rig.nodes (nodes c.args.play.now.rig.map) ++ (codes "end" ++ ends v)))) c.largest.ensures)
+    (and_then s first last (rows c.args.play.now.rig.nodes (nodes c.args.play.now.rig.map)) (codes "end" ++ ends c.from.result) c.push_rows.ensures
+    (and_then first word last (codes "end") (ends c.from.result) c.push_str.ensures c.end_line.ensures)
+    ∙ ap (λ (v : ℕ). clip (s ++ (rows c.args.play.now.rig.nodes (nodes c.args.play.now.rig.map) ++ (codes "end" ++ ends v)))) (c.from.ensures ∙ c.largest.ensures))
