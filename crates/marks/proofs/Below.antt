@@ -1,7 +1,10 @@
 -- Laws of the numbers below a bound.
-use Rattle.std.proofs.Common.{◌≡◌, ℕ, zero, suc, ◌+◌, ◌*◌, ◌<◌, ◌≤◌, max, Bool, true, false, cond, ◌⊎◌, Decides, refl, ap, ◌∙◌, ap₂, inl, inr, add-one, arith}
+use Rattle.std.proofs.Common.{◌≡◌, ℕ, zero, suc, ◌+◌, ◌*◌, ◌<◌, ◌≤◌, max, Bool, true, false, cond, ◌||◌, List, [], ◌∷◌, ◌++◌, fold, sum_by, count_by, ◌⊎◌, Decides, refl, ap, ◌∙◌, ap₂, inl, inr, add-one, arith}
+use Rattle.std.specs.List.{range_with_len, list_any}
 use Rattle.std.proofs.lemmas.Bool.{cases_eq}
 use Rattle.std.proofs.lemmas.Bool.Decides.{Decides-below_or}
+use Rattle.std.proofs.lemmas.List.Folds.{list_any-append}
+use Rattle.std.proofs.lemmas.List.Sums.{fold_push}
 use Rattle.marks.specs.Below.{some_below, sum_below, count_below, max_below}
 
 pub some_decides : (p : ℕ → Bool) (P : ℕ → Type 0) → ((k : ℕ) → Decides (p k) (P k)) → (n : ℕ) → Decides (some_below p n) ((k : ℕ) × (k < n) × P k)
@@ -82,3 +85,41 @@ pub max_le : (f : ℕ → ℕ) (n m : ℕ) → ((i : ℕ) → i < n → f i ≤ 
 unfolding max_below
 max_le f zero m h = omega arith
 max_le f (suc n) m h = let l = max_le f n m (λ i q. h i (omega arith)) in let k = h n (omega arith) in omega arith
+
+-- the same of the list 0, 1, .., n - 1, which a chain over `0..n` gives
+
+range_more : (a n j : ℕ) → a + n ≡ j → range_with_len a (suc n) ≡ range_with_len a n ++ (j ∷ [])
+range_more a zero j e = let f : a ≡ j = omega arith in ap {B = List ℕ} (λ (k : ℕ). k ∷ []) f
+range_more a (suc n) j e = ap {B = List ℕ} (λ (l : List ℕ). a ∷ l) (range_more (a + 1) n j (omega arith))
+
+-- one number more
+pub fold_range : {X : Type 0} (f : X → ℕ → X) (a : X) (n : ℕ) → fold f a (range_with_len 0 (suc n)) ≡ f (fold f a (range_with_len 0 n)) n
+fold_range f a n = ap (fold f a) (range_more 0 n n (omega arith)) ∙ fold_push f a (range_with_len 0 n) n
+
+pub sum_by-range : (f : ℕ → ℕ) (n : ℕ) → sum_by f (range_with_len 0 n) ≡ sum_below f n
+unfolding sum_below
+sum_by-range f zero = refl
+sum_by-range f (suc n) = fold_range (λ a x. a + f x) 0 n ∙ ap (λ (a : ℕ). a + f n) (sum_by-range f n)
+
+pub count_by-range : (p : ℕ → Bool) (n : ℕ) → count_by p (range_with_len 0 n) ≡ count_below p n
+count_by-range p n = sum_by-range (λ i. cond (p i) 1 0) n
+
+pub fold_max-range : (f : ℕ → ℕ) (n : ℕ) → fold (λ a x. max a (f x)) 0 (range_with_len 0 n) ≡ max_below f n
+unfolding max_below
+fold_max-range f zero = refl
+fold_max-range f (suc n) = fold_range (λ a x. max a (f x)) 0 n ∙ ap (λ (a : ℕ). max a (f n)) (fold_max-range f n)
+
+or_swap : (x y : Bool) → (x || (y || false)) ≡ (y || x)
+or_swap true true = refl
+or_swap true false = refl
+or_swap false true = refl
+or_swap false false = refl
+
+pub list_any-range : (p : ℕ → Bool) (n : ℕ) → list_any p (range_with_len 0 n) ≡ some_below p n
+unfolding some_below
+list_any-range p zero = refl
+list_any-range p (suc n) =
+    ap (list_any p) (range_more 0 n n (omega arith))
+    ∙ list_any-append p (range_with_len 0 n) (n ∷ [])
+    ∙ or_swap (list_any p (range_with_len 0 n)) (p n)
+    ∙ ap (λ (b : Bool). p n || b) (list_any-range p n)

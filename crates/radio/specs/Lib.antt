@@ -1,4 +1,5 @@
 pub mod Kinds
+pub mod Messages
 pub mod Ways
 pub mod Waiting
 pub mod Queue

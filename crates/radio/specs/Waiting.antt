@@ -1,12 +1,13 @@
 -- Messages that wait, the oldest first, with space for 256.
-use Rattle.std.specs.Prelude.{cond, List, [], ◌∷◌, ◌++◌, length, take, nat_lt}
+use Rattle.std.specs.Prelude.{ℕ, List}
+use Rattle.bounded.specs.declared.Bounded.{Bounded}
+use Rattle.bounded.specs.Held.{held, pushed}
 use Rattle.radio.specs.declared.message.Message.{Message}
-use Rattle.radio.specs.declared.air.Air.{Air}
 
--- what waits in an array of 256 places: the first of them
-abbrev pub waiting : Air → List Message
-waiting a = take a.len a.items
+-- what waits in an air
+abbrev pub waiting : {n : ℕ} → Bounded Message n → List Message
+waiting a = held a
 
 -- one message more, which is lost where 256 wait
 abbrev pub entered : List Message → Message → List Message
-entered ms m = cond (nat_lt (length ms) 256) (ms ++ (m ∷ [])) ms
+entered ms m = pushed 256 ms m

@@ -1,5 +1,6 @@
 -- Slots that are held and slots that are free: the smallest free slot, and as many items as slots held.
-use Rattle.std.proofs.Common.{◌≡◌, ℕ, zero, suc, ◌+◌, ◌<◌, ◌≤◌, Bool, true, false, cond, ◌&&◌, ◌||◌, eqb, ◌⊎◌, sym, refl, ap, ◌∙◌, ap₂, inl, inr, ⊎_elim, arith}
+use Rattle.std.proofs.Common.{◌≡◌, ℕ, zero, suc, ◌+◌, ◌<◌, ◌≤◌, Bool, true, false, cond, ◌&&◌, ◌||◌, eqb, ◌⊎◌, Some, None, Option, sym, refl, ap, ◌∙◌, ap₂, inl, inr, ⊎_elim, arith}
+use Rattle.std.specs.Option.{MatchOption, unwrap_or}
 use Rattle.std.proofs.lemmas.Bool.{ne_eqb, cases_eq, cases_Bool}
 use Rattle.marks.specs.Below.{some_below, sum_below, count_below}
 use Rattle.marks.proofs.Below.{some_decides, count_le}
@@ -169,6 +170,14 @@ module _ (clash : ℕ → ℕ → Bool) (n : ℕ) where
       go : (holds clash n f a (m + 1) ≡ true) ⊎ (holds clash n f a (m + 1) ≡ false) → m + 1 ≡ first_from (holds clash n f a) 1 n
       go (inl t) = absurd (let c = crowded f a (m + 1) (λ s p q. ⊎_elim (λ e. ap (holds clash n f a) e ∙ t) (λ d. h s p (omega arith)) (cases_eq s (m + 1))) in let z : ⊥ = omega arith in z)
       go (inr e) = let c = crowded f a m h in first_is (holds clash n f a) 1 (m + 1) n (λ s p q. h s p (omega arith)) e (omega arith) (omega arith)
+
+  -- what a search through the slots 1 to m gives, or else m + 1, is it
+  pub least_search : (f : ℕ → ℕ) (a m : ℕ) → n ≤ m → (r : Option ℕ)
+      → MatchOption r ((k : ℕ) → 1 ≤ k → k < m + 1 → holds clash n f a k ≡ true)
+      (λ i. (1 ≤ i) × (i < m + 1) × (holds clash n f a i ≡ false) × ((k : ℕ) → 1 ≤ k → k < i → holds clash n f a k ≡ true))
+      → unwrap_or r (m + 1) ≡ least clash n f a
+  least_search f a m l None h = least_last f a m l (λ t p q. h t p (omega arith))
+  least_search f a m l (Some i) h = least_is f a i h.0 h.2 h.3
 
   pub least_like : (f g : ℕ → ℕ) → ((k : ℕ) → k < n → f k ≡ g k) → (a : ℕ) → least clash n f a ≡ least clash n g a
   unfolding least

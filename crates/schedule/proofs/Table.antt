@@ -1,6 +1,6 @@
 -- The table as the planner fills it.
-use Rattle.std.proofs.Common.{◌≡◌, ℕ, ◌+◌, ◌<◌, ◌≤◌, Bool, ◌⊎◌, List, [], ◌∷◌, ◌++◌, length, get_or, take, set, Ok, Err, Result, sym, ap, ◌∙◌, inl, inr, arith, get_or-set_other, get_or-set_same}
-use Rattle.std.proofs.lemmas.List.{take_more}
+use Rattle.std.proofs.Common.{◌≡◌, ℕ, ◌+◌, ◌-◌, ◌<◌, ◌≤◌, Bool, ◌⊎◌, List, [], ◌∷◌, ◌++◌, length, get_or, take, drop, set, replicate, Ok, Err, Result, sym, ap, ◌∙◌, ap₂, inl, inr, arith, get_or-set_other, get_or-set_same}
+use Rattle.std.proofs.lemmas.List.{take_more, length-set, length-take-le, length-replicate, get_or-replicate, get_or-append_right, get_or-drop}
 use Rattle.std.proofs.lemmas.Bool.{cases_eq}
 use Rattle.schedule.specs.Rand.{least, rand, Fine, IsRand}
 use Rattle.refusal.specs.Entry.{entry, Why}
@@ -10,7 +10,7 @@ use Rattle.schedule.specs.declared.checking.Verdict.TheVariants.{Accepted}
 use Rattle.schedule.specs.Order.{entries, NoItem, NamedTwice, Disordered, Planned, Sound}
 use Rattle.schedule.specs.Sharing.{Checked}
 use Rattle.schedule.proofs.Slots.{least_like}
-use Rattle.schedule.proofs.Rand.{rand_push_same, rand_push_other, rand_like}
+use Rattle.schedule.proofs.Rand.{rand_none, rand_push_same, rand_push_other, rand_like}
 
 module _ (clash : ℕ → ℕ → Bool) (n : ℕ) (order slots : List ℕ) where
   -- one item of the order more
@@ -27,9 +27,34 @@ module _ (clash : ℕ → ℕ → Bool) (n : ℕ) (order slots : List ℕ) where
           ∙ sym (rand_push_same clash n (take i order) (get_or order i 0)) ∙ ap (rand clash n (take i order ++ (get_or order i 0 ∷ []))) (sym d)
       go (inr d) = get_or-set_other slots (get_or order i 0) k s 0 d ∙ ih k lk ∙ sym (rand_push_other clash n (take i order) (get_or order i 0) k d)
 
+  -- the same of a table as long as the items, with the slot that the planner picks
+  pub table_turn : Fine n order → (i a s : ℕ) → i < length order → length slots ≡ n → a ≡ get_or order i 0
+      → s ≡ least clash (length slots) (entries slots) a
+      → ((k : ℕ) → k < n → get_or slots k 0 ≡ rand clash n (take i order) k)
+      → (length (set slots a s) ≡ n) × ((k : ℕ) → k < n → get_or (set slots a s) k 0 ≡ rand clash n (take (i + 1) order) k)
+  table_turn fine i a s l e d es ih = (
+    length-set slots a s ∙ e,
+    λ k lk. ap (λ (x : ℕ). get_or (set slots x s) k 0) d
+        ∙ table_more i s l (let h = (fine i l).0 in omega arith) (es ∙ ap₂ (λ (x y : ℕ). least clash x (entries slots) y) e d) ih k lk,
+  )
+
   -- a table with RAND's slots has the relation
   pub table_is : Fine n order → ((k : ℕ) → k < n → get_or slots k 0 ≡ rand clash n order k) → IsRand clash n order (entries slots)
   table_is = rand_like clash n order (entries slots)
+
+-- the items' part of a table cleared, and put back before the rest
+module _ (n : ℕ) (slots : List ℕ) (long : n ≤ length slots) where
+  pub cleared : (clash : ℕ → ℕ → Bool) (table : List ℕ) → table ≡ replicate (length (take n slots)) 0
+      → (length table ≡ n) × ((k : ℕ) → k < n → get_or table k 0 ≡ rand clash n [] k)
+  cleared clash table e =
+      let l = length-take-le n slots long in (
+        ap length e ∙ length-replicate (length (take n slots)) 0 ∙ l,
+        λ k h. ap (λ (xs : List ℕ). get_or xs k 0) e ∙ get_or-replicate (length (take n slots)) k 0 0 (omega arith) ∙ sym (rand_none clash n k),
+      )
+
+  pub put_back : (table : List ℕ) → length table ≡ n → (k : ℕ) → n ≤ k → get_or (table ++ drop n slots) k 0 ≡ get_or slots k 0
+  put_back table e k l =
+      get_or-append_right table (drop n slots) n k 0 e l ∙ get_or-drop n slots (k - n) 0 ∙ ap (λ (i : ℕ). get_or slots i 0) (let q : n + (k - n) ≡ k = omega arith in q)
 
 -- an order that is fine, and a table that is long enough, are not refused
 

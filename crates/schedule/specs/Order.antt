@@ -22,6 +22,7 @@ NamedTwice n order = (i : ℕ) × (i < length order) × FineTo n order i × (sli
 abbrev pub Disordered : ℕ → List ℕ → ℕ → Type 0
 Disordered n order number = Why number 3 (NoItem n order) (Why number 5 (NamedTwice n order) ⊥)
 
+-- what the check of an order answers: every entry is an item below n and none repeats; or a refusal
 abbrev pub Ordered : ℕ → List ℕ → Result (Unit {0}) Refusal → Type 0
 Ordered n order (Ok _) = Fine n order
 Ordered n order (Err e) = Disordered n order (entry e).number
@@ -38,3 +39,7 @@ Planned clash n order before after (Err e) =
 abbrev pub Sound : (ℕ → ℕ → Bool) → ℕ → List ℕ → List ℕ → Result (Unit {0}) Refusal → Type 0
 Sound clash n order after (Ok _) = IsRand clash n order (entries after) × ((m : ℕ) × Checked clash n after (Ok (Accepted m))) × RandLaw clash n
 Sound clash n order after (Err _) = Unit {0}
+
+-- number tells the number to which a conversion takes each item
+abbrev pub Numbers : {A : Type 0} → (A → ℕ → Type 0) → (A → ℕ) → Type 0
+Numbers {A} converts number = (item : A) (n : ℕ) → converts item n → n ≡ number item

@@ -1,13 +1,14 @@
 //! Looking for two items that clash and share a slot.
-ghost use Rattle.std.specs.Prelude.{◌<◌, ◌≤◌, length};
+ghost use Rattle.std.specs.Prelude.{◌<◌, length};
 ghost use Rattle.schedule.specs.Sharing.{Checked, Partner};
 
 use crate::ClashRule;
 use crate::rule::bounded;
 use refusal::Refusal;
 
-/// What the checker says of a table of slots.
-#[derive(Clone, Copy)]
+/// What the checker says of a table of slots. Both are verdicts, and neither is an error, so this
+/// is no `Result`.
+#[derive(Clone, Copy, Debug, PartialEq, Eq)]
 pub enum Verdict {
     /// No two clashing items share a slot; the largest slot, or 0 if there is none.
     Accepted(u16),
@@ -17,21 +18,15 @@ pub enum Verdict {
 }
 
 // The first item after `a` that clashes with it and shares its slot.
-fn partner<C: ClashRule>(rule: &C, slots: &[u16], count: usize, a: usize) -> Option<usize>
-    requires inside { a < count }
-    requires long { count ≤ length slots.now }
-    ensures { Partner (C.clash rule.now) count slots.now a result }
+fn partner<C: ClashRule>(rule: &C, slots: &[u16], a: usize) -> Option<usize>
+    requires { a < length slots.now }
+    ensures { Partner (C.clash rule.now) (length slots.now) slots.now a result }
 {
     let slot = slots[a];
     if slot == 0 {
         return None;
     }
-    for b in a + 1..count {
-        if slots[b] == slot && rule.clashes(a, b) {
-            return Some(b);
-        }
-    }
-    None
+    (a + 1..slots.len()).find(|b| slots[*b] == slot && rule.clashes(a, *b))
 }
 
 /// Checks a table of slots, one for each item; 0 means no slot, and entries past the items are not
@@ -45,12 +40,13 @@ pub fn check<C: ClashRule>(rule: &C, slots: &[u16]) -> Result<Verdict, Refusal>
     if slots.len() < count {
         return Err(Refusal::Short);
     }
+    let table = &slots[..count];
     let mut largest = 0;
-    for a in 0..count {
-        if let Some(b) = partner(rule, slots, count, a) {
+    for (a, slot) in table.iter().enumerate() {
+        if let Some(b) = partner(rule, table, a) {
             return Ok(Verdict::Clash((a as u16, b as u16)));
         }
-        largest = largest.max(slots[a]);
+        largest = largest.max(*slot);
     }
     Ok(Verdict::Accepted(largest))
 }

@@ -2,9 +2,11 @@
 #![tactic(auto)]
 
 mod checking;
+mod ordering;
 mod planning;
 mod rule;
 
 pub use checking::{Verdict, check};
+pub use ordering::ordered;
 pub use planning::plan;
 pub use rule::ClashRule;

@@ -10,14 +10,13 @@ pub trait ClashRule {
     /// The most items that a map can have under this rule.
     const MOST: usize;
 
-    // What `MOST` is, for clauses, which cannot cite it.
+    // What `MOST` is, for clauses: an impl on a type with a lifetime can give no constant that
+    // clauses cite.
     ghost most: { ℕ };
 
     ghost items: { Self → ℕ };
 
     ghost clash: { Self → ℕ → ℕ → Bool };
-
-    ghost laws: { Laws items clash most };
 
     /// `MOST`, where a proof has to know it.
     fn limit() -> usize
@@ -30,12 +29,14 @@ pub trait ClashRule {
     /// Whether items `a` and `b` clash.
     fn clashes(&self, a: usize, b: usize) -> bool
         ensures { result ≡ clash self.now a b };
+
+    ghost laws: { Laws items clash most };
 }
 
 // The number of items, which the rule's limit bounds.
 pub(crate) fn bounded<C: ClashRule>(rule: &C) -> usize
     ensures value { result ≡ C.items rule.now }
-    ensures bound { (result ≤ C.most) × (result ≤ 512) }
+    ensures bound { (result ≤ C.most) × (C.most ≤ 512) }
 {
-    rule.count().min(C::limit())
+    rule.count()
 }

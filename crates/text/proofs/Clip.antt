@@ -1,9 +1,10 @@
 -- Writing to what has space for 1024 bytes: one piece after another.
-use Rattle.std.proofs.Common.{◌≡◌, ℕ, ◌+◌, ◌<◌, ◌≤◌, ◌⊎◌, List, [], ◌∷◌, ◌++◌, length, take, set, sym, ap, ◌∙◌, inl, inr, append_assoc, append-nil, arith, length-append, length-take, take_all}
+use Rattle.std.proofs.Common.{◌≡◌, ℕ, ◌<◌, ◌≤◌, ◌⊎◌, List, [], ◌++◌, length, take, sym, ap, ◌∙◌, inl, inr, append_assoc, append-nil, arith, length-take, take_all}
 use lib.Seq.{take-append-le}
-use Rattle.std.proofs.lemmas.List.{take_more_set}
 use Rattle.std.proofs.lemmas.Bool.{cases_lt}
-use Rattle.text.specs.Written.{clip}
+use Rattle.text.specs.Written.{clip, written}
+use Rattle.text.specs.declared.Text.{Text}
+use Rattle.bounded.proofs.Places.{held_short}
 
 clip_more : (a b : List ℕ) → clip (clip a ++ b) ≡ clip (a ++ b)
 clip_more a b = go (cases_lt 1024 (length a))
@@ -27,11 +28,6 @@ none_yet s h = rw append-nil (sym (take_all 1024 s h))
 pub whole : (s t a : List ℕ) → s ≡ [] → length a ≤ 1024 → t ≡ clip (s ++ a) → t ≡ a
 whole s t a e l p = p ∙ ap (λ (x : List ℕ). clip (x ++ a)) e ∙ take_all 1024 a l
 
-pub push_fits : (bytes : List ℕ) (len b : ℕ) → length bytes ≡ 1024 → len < 1024 → take (len + 1) (set bytes len b) ≡ clip (take len bytes ++ (b ∷ []))
-push_fits bytes len b f h =
-    take_more_set bytes len b (omega arith) ∙ sym (take_all 1024 (take len bytes ++ (b ∷ [])) (simp (length-append, length-take) (omega arith)))
-
-pub push_past : (bytes : List ℕ) (len b : ℕ) → length bytes ≡ 1024 → len ≤ 1024 → 1024 ≤ len → take len bytes ≡ clip (take len bytes ++ (b ∷ []))
-push_past bytes len b f h l =
-    let k : 1024 ≤ length (take len bytes) = simp length-take (omega arith) in
-    sym (take-append-le 1024 (take len bytes) (b ∷ []) k ∙ take_all 1024 (take len bytes) (simp length-take (omega arith)))
+-- a text is no longer than its space
+pub written_short : (t : Text) → length (written t) ≤ 1024
+written_short t = held_short t.bytes

@@ -1,22 +1,13 @@
 -- Digits, words and the ends of lines, piece by piece, and how long they are.
-use Rattle.std.proofs.Common.{◌≡◌, ℕ, zero, suc, ◌+◌, ◌*◌, ◌/◌, ◌%◌, ◌^◌, ◌<◌, ◌≤◌, List, [], ◌∷◌, ◌++◌, length, get_or, take, Some, codes, decimal, Option, sym, refl, ap, ◌∙◌, ap₂, mul-suc, arith, length-append}
+use Rattle.std.proofs.Common.{◌≡◌, ℕ, zero, suc, ◌+◌, ◌*◌, ◌^◌, ◌<◌, ◌≤◌, List, [], ◌∷◌, ◌++◌, length, get_or, take, Some, codes, decimal, Option, sym, refl, ap, ◌∙◌, ap₂, mul-suc, arith, length-append}
 use Rattle.std.specs.Option.{option_to_list}
-use Rattle.std.proofs.lemmas.Fmt.{decimal_digit, decimal_step, length-decimal-le}
+use Rattle.std.proofs.lemmas.Fmt.{length-decimal-le}
 use Rattle.std.proofs.lemmas.List.{take_more, flat_map_more}
 use Rattle.refusal.specs.declared.Refusal.{Refusal}
 use Rattle.refusal.specs.declared.Refusal.TheVariants.{Short, Count, Node, SelfLink, Twice, Missing, Unlinked, Settled, Busy, Spent, Quiet, Foreign, Torn, Record}
 use Rattle.refusal.specs.Entry.{entry}
 use Rattle.text.specs.Written.{clip, spaced, line_end, refused_line}
 use Rattle.text.proofs.Clip.{and_then}
-
-pub digit_last : (s t u : List ℕ) (n : ℕ) → 10 ≤ n → n < 2 ^ 64 → t ≡ clip (s ++ decimal (n / 10)) → u ≡ clip (t ++ ((48 + n % 10) ∷ [])) → u ≡ clip (s ++ decimal n)
-digit_last s t u n h w p q = rw (decimal_step n h w) (and_then s t u (decimal (n / 10)) ((48 + n % 10) ∷ []) p q)
-
-pub digit_only : (s u : List ℕ) (n : ℕ) → n < 10 → u ≡ clip (s ++ ((48 + n % 10) ∷ [])) → u ≡ clip (s ++ decimal n)
-digit_only s u n h q = let e : n % 10 ≡ n = omega arith in rw (decimal_digit n h) (rw e at q)
-
-pub byte_more : (s t u w : List ℕ) (i : ℕ) → i < length w → t ≡ clip (s ++ take i w) → u ≡ clip (t ++ (get_or w i 0 ∷ [])) → u ≡ clip (s ++ take (i + 1) w)
-byte_more s t u w i l p q = and_then s t u (take i w) (get_or w i 0 ∷ []) p q ∙ ap (λ (x : List ℕ). clip (s ++ x)) (sym (take_more w i 0 l))
 
 pub number_more : (s t u v ns : List ℕ) (i : ℕ) → i < length ns → t ≡ clip (s ++ spaced (take i ns)) → u ≡ clip (t ++ (32 ∷ [])) → v ≡ clip (u ++ decimal (get_or ns i 0)) → v ≡ clip (s ++ spaced (take (i + 1) ns))
 number_more s t u v ns i l p q r =

@@ -4,11 +4,12 @@ use Rattle.std.specs.List.{flat_map}
 use Rattle.std.specs.Option.{option_to_list}
 use Rattle.refusal.specs.declared.Refusal.{Refusal}
 use Rattle.refusal.specs.Entry.{entry}
+use Rattle.bounded.specs.Held.{held}
 use Rattle.text.specs.declared.Text.{Text}
 
 -- the bytes written so far
 abbrev pub written : Text → List ℕ
-written t = take t.len t.bytes
+written t = held t.bytes
 
 -- what there is space for: 1024 bytes
 abbrev pub clip : List ℕ → List ℕ

@@ -3,6 +3,8 @@ ghost use Rattle.std.specs.Prelude.{◌≡◌, [], ◌∷◌, ◌++◌, decimal}
 ghost use Rattle.text.specs.Written.{clip, line_end, refused_line, spaced, written};
 
 use crate::Text;
+use bounded::Bounded;
+use itoa::Buffer;
 use refusal::Refusal;
 
 impl Text {
@@ -13,47 +15,37 @@ impl Text {
     pub fn new() -> Text
         ensures { written result ≡ [] }
     {
-        Text {
-            bytes: [0; 1024],
-            len: 0,
-        }
+        Text { bytes: Bounded::new(0) }
     }
 
     /// The bytes written so far.
     pub fn as_bytes(&self) -> &[u8]
         ensures { result.now ≡ written self.now }
     {
-        &self.bytes[0..self.len]
+        self.bytes.as_slice()
     }
 
     /// Writes one byte.
     pub fn push(&mut self, byte: u8)
         ensures { written self.new ≡ clip (written self.old ++ (byte ∷ [])) }
     {
-        if self.len < Text::SPACE {
-            self.bytes[self.len] = byte;
-            self.len += 1;
-        }
+        self.bytes.push(byte);
     }
 
     /// Writes a word.
     pub fn push_str(&mut self, word: &str)
         ensures { written self.new ≡ clip (written self.old ++ word.now) }
     {
-        let bytes = word.as_bytes();
-        for byte in bytes {
-            self.push(*byte);
-        }
+        self.bytes.extend_from_slice(word.as_bytes());
     }
 
     /// Writes a number in decimal digits.
     pub fn push_number(&mut self, n: usize)
         ensures { written self.new ≡ clip (written self.old ++ decimal n) }
     {
-        if n >= 10 {
-            self.push_number(n / 10);
-        }
-        self.push(b'0' + (n % 10) as u8);
+        // Not by `write!`: it may fail, and promises its bytes only where it doesn't.
+        let mut digits = Buffer::new();
+        self.push_str(digits.format(n));
     }
 
     /// Writes each number after one space.

@@ -1,16 +1,11 @@
 //! The coin radio as a radio.
-ghost use Rattle.std.specs.Prelude.{◌≡◌, Bool, true, false, ◌⊎◌, [], length, if◌then◌else◌, ◌==◌};
-ghost use Rattle.radio.specs.Coin.{CoinState, coin_ways, seeded, stepped, loses, stays};
-ghost use Rattle.radio.specs.Waiting.{waiting, entered};
-ghost use Rattle.std.proofs.Common.{inl};
-ghost use Rattle.radio.specs.Ways.{In};
-ghost use Rattle.radio.specs.Places.{entered_in, removed_in, nth_in};
-ghost use Rattle.std.specs.List.{remove};
-ghost use Rattle.radio.specs.Coin;
+ghost use Rattle.std.specs.Prelude.{◌≡◌, []};
+ghost use Rattle.radio.specs.Coin.{CoinState, coin_ways, place, seeded, stepped};
+ghost use Rattle.radio.specs.Places.{coin_put_air, coin_take_air, nth_in};
+ghost use Rattle.radio.specs.Waiting.{waiting};
 
 use super::CoinRadio;
-use crate::air::Air;
-use crate::{Message, Radio};
+use crate::{Message, Radio, air};
 
 /// The generator's next value.
 pub fn step(value: u32) -> u32
@@ -30,7 +25,7 @@ impl CoinRadio {
         let value = if seed == 0 { 1 } else { seed };
         CoinRadio {
             value,
-            air: Air::new(),
+            air: air::empty(),
         }
     }
 }
@@ -42,22 +37,17 @@ impl Radio for CoinRadio {
 
     ghost ways = { coin_ways };
 
-    ghost put_air = { λ s m x h.
-        let go : (b : Bool) → In x (if b then s.waits else entered s.waits m) → In x s.waits ⊎ (x ≡ m) = elim [ true ↦ λ i. inl i | false ↦ λ i. entered_in s.waits m x i ] in
-        go (loses (stepped s.value)) h };
+    ghost put_air = { coin_put_air };
 
-    ghost take_air = { λ s x h.
-        let left : (b : Bool) → In x (if b then s.waits else remove s.waits (Coin.place s)) → In x s.waits = elim [ true ↦ λ i. i | false ↦ λ i. removed_in s.waits (Coin.place s) x i ] in
-        let go : (b : Bool) → In x (if b then s else (record { value = stepped s.value; waits = (if stays (stepped s.value) then s.waits else remove s.waits (Coin.place s)) })).waits → In x s.waits = elim [ true ↦ λ i. i | false ↦ λ i. left (stays (stepped s.value)) i ] in
-        go (length s.waits == 0) h };
+    ghost take_air = { coin_take_air };
 
-    ghost taken_air = { λ s x. nth_in s.waits (Coin.place s) x };
+    ghost taken_air = { λ s x. nth_in s.waits (place s) x };
 
     fn put(&mut self, message: Message) {
         let value = step(self.value);
         self.value = value;
         if value % 8 != 0 {
-            self.air.enter(message);
+            self.air.push(message);
         }
     }
 
@@ -69,7 +59,7 @@ impl Radio for CoinRadio {
         let value = step(self.value);
         let place = value as usize % count;
         self.value = value;
-        let message = self.air.at(place);
+        let message = self.air.get(place);
         if value / 65_536 % 8 != 0 {
             self.air.remove(place);
         }

@@ -6,15 +6,14 @@ ghost use Rattle.radio.specs.declared.message.Message.{Message};
 ghost use Rattle.radio.specs.Places.{entered_in, removed_in, nth_in};
 
 use super::RackQueue;
-use crate::air::Air;
-use crate::{Message, Radio};
+use crate::{Message, Radio, air};
 
 impl RackQueue {
     /// A queue in which nothing waits.
     pub fn new() -> RackQueue
         ensures { waiting result.air ≡ [] }
     {
-        RackQueue { air: Air::new() }
+        RackQueue { air: air::empty() }
     }
 }
 
@@ -32,11 +31,11 @@ impl Radio for RackQueue {
     ghost taken_air = { λ s x. nth_in s 0 x };
 
     fn put(&mut self, message: Message) {
-        self.air.enter(message);
+        self.air.push(message);
     }
 
     fn take(&mut self) -> Option<Message> {
-        let oldest = self.air.at(0);
+        let oldest = self.air.get(0);
         self.air.remove(0);
         oldest
     }

@@ -15,7 +15,8 @@ fn are_near(map: &Map, x: u8, y: u8) -> bool
     x == y || map.linked(x, y)
 }
 
-// Whether an end of one pair is an end of the other or a neighbour of one.
+// Whether an end of one pair is an end of the other or a neighbour of one. The four questions are
+// written out: a search through `[q.0, q.1]` inside one through `[p.0, p.1]` is longer.
 fn are_close(map: &Map, p: (u8, u8), q: (u8, u8)) -> bool
     ensures { result ≡ close map.now p q }
 {
@@ -38,8 +39,7 @@ impl<'a> LinkRule<'a> {
         if pairs.len() > LinkRule::MOST_PAIRS {
             return Err(Refusal::Count);
         }
-        for pair in pairs {
-            let (a, b) = *pair;
+        for &(a, b) in pairs {
             if a >= map.count() || b >= map.count() {
                 return Err(Refusal::Node);
             }
@@ -60,8 +60,6 @@ impl<'a> ClashRule for LinkRule<'a> {
 
     ghost clash = { link_rule_clash };
 
-    ghost laws = { link_laws };
-
     fn limit() -> usize
         ensures { result ≡ 512 }
     {
@@ -73,9 +71,11 @@ impl<'a> ClashRule for LinkRule<'a> {
     }
 
     fn clashes(&self, a: usize, b: usize) -> bool {
-        a < self.pairs.len()
-            && b < self.pairs.len()
-            && a != b
-            && are_close(self.map, self.pairs[a], self.pairs[b])
+        match (self.pairs.get(a), self.pairs.get(b)) {
+            (Some(p), Some(q)) => a != b && are_close(self.map, *p, *q),
+            _ => false,
+        }
     }
+
+    ghost laws = { link_laws };
 }

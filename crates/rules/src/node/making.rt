@@ -26,8 +26,6 @@ impl<'a> ClashRule for NodeRule<'a> {
 
     ghost clash = { node_clash };
 
-    ghost laws = { node_laws };
-
     fn limit() -> usize
         ensures { result ≡ 64 }
     {
@@ -39,10 +37,11 @@ impl<'a> ClashRule for NodeRule<'a> {
     }
 
     fn clashes(&self, a: usize, b: usize) -> bool {
-        if a < Self::MOST && b < Self::MOST {
-            self.map.contenders(a as u8).has(b as u8)
-        } else {
-            false
+        match (u8::try_from(a), u8::try_from(b)) {
+            (Ok(a), Ok(b)) => self.map.contenders(a).has(b),
+            _ => false,
         }
     }
+
+    ghost laws = { node_laws };
 }

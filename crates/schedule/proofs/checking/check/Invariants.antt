@@ -3,4 +3,4 @@ use Rattle.schedule.specs.Sharing.{Alone, Largest}
 use Rattle.schedule.proofs.checking.check.Given as goal
 
 abbrev pub invariant-loop-a : goal.invariant-loop-a
-invariant-loop-a g l = ((x : ℕ) → x < l.a → Alone (g.C.ClashRule.clash l.rule) l.slots x l.count) × Largest l.a l.slots l.largest
+invariant-loop-a g l = ((x : ℕ) → x < l.a → Alone (g.C.ClashRule.clash l.rule) l.table x l.count) × Largest l.a l.table l.largest

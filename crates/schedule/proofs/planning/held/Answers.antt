@@ -1,11 +1,8 @@
-use Rattle.std.proofs.Common.{sym, arith}
-use Rattle.std.proofs.lemmas.Bool.{and_from, eq-eqb}
-use Rattle.schedule.proofs.Slots.{some_at, some_none}
+use Rattle.std.proofs.Common.{rules, tests, ◌&&◌, eqb, get_or, length, refl}
+use Rattle.marks.proofs.Ranges.{any_below}
 use Rattle.schedule.proofs.planning.held.Goals as goal
 
-pub returns-then-clashes : goal.returns-then-clashes
-returns-then-clashes g c =
-    sym (some_at _ c.args.count c.loop-b.b c.loop-b-test.true (and_from _ _ (sym c.if-clashes.ensures) (eq-eqb _ _ c.if-slots-b.true)))
-
 pub returns : goal.returns
-returns g c = sym (some_none _ c.args.count (λ k l. c.loop-b.invariant k (omega arith)))
+returns g c =
+    any_below (λ b. g.C.ClashRule.clash c.args.rule.now c.args.a b && eqb (get_or c.args.slots.now b 0) c.args.slot) (length c.args.slots.now) c.any.result
+    c.any.ensures.ran refl (λ x b q k. search (rules, tests))

@@ -1,14 +1,16 @@
-use Rattle.std.proofs.Common.{sym, arith}
+use Rattle.std.proofs.Common.{rules, tests, true, false, ◌∙◌, length, ◌≡◌, arith}
+use Rattle.std.proofs.lemmas.Iterator.{first_from_Range}
+use Rattle.schedule.specs.Rand.{holds}
 use Rattle.schedule.specs.Order.{entries}
-use Rattle.schedule.proofs.Slots.{least_is, least_last}
+use Rattle.schedule.proofs.Slots.{least_search}
 use Rattle.schedule.proofs.planning.lowest.Goals as goal
-
-pub returns-then-not-held : goal.returns-then-not-held
-returns-then-not-held g c =
-    least_is (g.C.ClashRule.clash c.args.rule.now) c.args.count (entries c.args.slots.now) c.args.a c.loop-slot.slot
-    (omega arith) (sym c.if-not-held.ensures) c.loop-slot.invariant
 
 pub returns : goal.returns
 returns g c =
-    least_last (g.C.ClashRule.clash c.args.rule.now) c.args.count (entries c.args.slots.now) c.args.a c.limit.result
-    (omega (arith, c.limit.ensures, c.requires.few.0)) (λ t p q. c.loop-slot.invariant t p (omega arith))
+    let clash = g.C.ClashRule.clash c.args.rule.now in
+    let n = length c.args.slots.now in
+    let f = entries c.args.slots.now in
+    c.unwrap_or.ensures
+    ∙ least_search clash n f c.args.a c.limit.result (omega (arith, c.limit.ensures, c.requires.few.0)) c.find.result
+    (first_from_Range _ _ _ c.find.result (λ s. holds clash n f c.args.a s ≡ false) (λ s. holds clash n f c.args.a s ≡ true)
+    c.find.ensures.ran (λ x q k. search (rules, tests)) (λ x q k. search (rules, tests)))

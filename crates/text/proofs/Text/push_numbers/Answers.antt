@@ -1,11 +1,11 @@
-use Rattle.std.proofs.Common.{ℕ, List, ◌++◌, ap, ◌∙◌, arith, length-take, take_all}
+use Rattle.std.proofs.Common.{ℕ, List, ◌++◌, ap, ◌∙◌, take_all}
 use Rattle.text.specs.Written.{written, clip, spaced}
-use Rattle.text.proofs.Clip.{none_yet}
+use Rattle.text.proofs.Clip.{none_yet, written_short}
 use Rattle.text.proofs.Lines.{number_more}
 use Rattle.text.proofs.Text.push_numbers.Goals as goal
 
 pub loop-n-init : goal.loop-n-init
-loop-n-init c = none_yet (written c.args.self.now) (simp length-take (omega arith))
+loop-n-init c = none_yet (written c.args.self.now) (written_short c.args.self.now)
 
 pub loop-n-preserved : goal.loop-n-preserved
 loop-n-preserved c =

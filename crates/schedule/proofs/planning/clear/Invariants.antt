@@ -1,5 +1,0 @@
-use Rattle.std.proofs.Common.{◌≡◌, ℕ, ◌<◌, ◌≤◌, get_or}
-use Rattle.schedule.proofs.planning.clear.Given as goal
-
-abbrev pub invariant-loop-i : goal.invariant-loop-i
-invariant-loop-i l = ((k : ℕ) → k < l.i → get_or l.slots k 0 ≡ 0) × ((k : ℕ) → l.i ≤ k → get_or l.slots k 0 ≡ get_or l.initial.slots k 0)
