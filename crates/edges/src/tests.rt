@@ -7,38 +7,29 @@ use std::test::Fail;
 
 // A refusal's number, or 0 for a call that was accepted.
 fn number_of(answer: Result<(), Refusal>) -> u8 {
-    match answer {
-        Ok(()) => 0,
-        Err(refusal) => refusal.number(),
-    }
+    answer.err().map_or(0, |refusal| refusal.number())
 }
 
 // A refusal's number and index, or zeros for a job that was built.
 fn verdict(job: &[u8]) -> (u8, usize) {
-    match build(job) {
-        Ok(_) => (0, 0),
-        Err(refusal) => (refusal.number(), refusal.index().unwrap_or(0)),
-    }
+    build(job).err().map_or((0, 0), |refusal| {
+        (refusal.number(), refusal.index().unwrap_or(0))
+    })
 }
 
 // A map of so many nodes with these links; what the map refuses is left out.
 fn map_of(count: u8, links: &[(u8, u8)]) -> Map {
     let mut map = Map::new();
     let _ = map.open(count);
-    for (a, b) in links {
-        let _ = map.link(*a, *b);
+    for &(a, b) in links {
+        let _ = map.link(a, b);
     }
     map
 }
 
 // How many contenders each of the first four nodes has.
 fn contender_counts(map: &Map) -> [u8; 4] {
-    [
-        map.contenders(0).len(),
-        map.contenders(1).len(),
-        map.contenders(2).len(),
-        map.contenders(3).len(),
-    ]
+    [0, 1, 2, 3].map(|node| map.contenders(node).len())
 }
 
 #[test]
@@ -48,10 +39,7 @@ fn marks_at_the_ends(rt: HostRuntime) {
     assert!(rt; ends.has(0) && ends.has(63) && !ends.has(64) && !ends.has(255));
     assert_eq!(rt; ends.first_missing(), Some(1));
     assert!(rt; ends.without(0).without(63) == Marks::empty());
-    let mut all = Marks::empty();
-    for i in 0..64 {
-        all = all.with(i);
-    }
+    let all = (0..64).fold(Marks::empty(), |marks, i| marks.with(i));
     assert_eq!(rt; all.first_missing(), None);
     assert_eq!(rt; all.without(63).first_missing(), Some(63));
     assert_eq!(rt; all.union(ends).len(), 64);
@@ -120,13 +108,10 @@ fn a_full_map_of_64(rt: HostRuntime) {
 #[test]
 fn lengths_of_jobs(rt: HostRuntime) -> Result<(), Fail> {
     let mut job = [0u8; 32_776];
-    for i in 0..4097 {
-        job[8 * i] = b'L';
-        job[8 * i + 2] = 1;
+    for record in job.chunks_exact_mut(8) {
+        record.copy_from_slice(b"L\0\x01\0\0\0\0\0");
     }
-    job[0] = b'N';
-    job[1] = 2;
-    job[2] = 0;
+    job[0..8].copy_from_slice(b"N\x02\0\0\0\0\0\0");
     let lengths = [
         (0, 14),
         (7, 13),
@@ -138,8 +123,8 @@ fn lengths_of_jobs(rt: HostRuntime) -> Result<(), Fail> {
         (32_776, 2),
     ];
     for (length, number) in lengths {
-        assert!(rt; length <= job.len());
-        assert_eq!(rt; verdict(&job[0..length]), (number, 0));
+        let part = job.get(0..length).ok_or("no job of this length")?;
+        assert_eq!(rt; verdict(part), (number, 0));
     }
     Ok(())
 }
@@ -182,7 +167,7 @@ fn bad_first_records(rt: HostRuntime) {
 }
 
 #[test]
-fn bad_later_records(rt: HostRuntime) -> Result<(), Fail> {
+fn bad_later_records(rt: HostRuntime) {
     let mut job = *b"N\x03\0\0\0\0\0\0L\0\x01\0\0\0\0\0L\x01\x02\0\0\0\0\0L\x02\x02\0\0\0\0\0";
     assert_eq!(rt; verdict(&job), (14, 3));
     for second in [
@@ -196,12 +181,9 @@ fn bad_later_records(rt: HostRuntime) -> Result<(), Fail> {
         b"D\x01\0\0\0\0\0\x01",
         b"\0\0\0\0\0\0\0\0",
     ] {
-        for k in 0..8 {
-            job[16 + k] = second[k];
-        }
+        job[16..24].copy_from_slice(second);
         assert_eq!(rt; verdict(&job), (14, 2));
     }
-    Ok(())
 }
 
 #[test]

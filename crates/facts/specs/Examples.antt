@@ -38,14 +38,10 @@ pub record LoneNode (r : Lone) : Type 0 where
 abbrev pub lottery : ℕ → Lottery
 lottery v = cond (v % 2 == 1 && v / 2 % 3 == 0) Asked Lost
 
--- k = 3, one more than the contenders: the numbers 1 and 7 win; 0, 3 and 8 lose
+-- k = 3, one more than the contenders: of the draws with 0, 1, 3, 7 and 8 those with 1 and 7 win, and the others lose
 pub record LotteryOfThree (r : Draws) : Type 0 where
   pub contenders : r.contenders ≡ 2
-  pub zero : r.zero ≡ Ok Lost
-  pub one : r.one ≡ Ok Asked
-  pub three : r.three ≡ Ok Lost
-  pub seven : r.seven ≡ Ok Asked
-  pub eight : r.eight ≡ Ok Lost
+  pub answers : r.answers ≡ Ok Lost ∷ Ok Asked ∷ Ok Lost ∷ Ok Asked ∷ Ok Lost ∷ []
 
 -- planner, node rule, path 0–1–2–3: the order 0, 3, 1, 2 gives the nodes 0 to 3 the slots 1, 2, 3, 1
 pub record PlanOfFour (r : Plan) : Type 0 where

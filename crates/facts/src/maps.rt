@@ -8,6 +8,7 @@ use crate::outcomes::Openings;
 use map::Map;
 
 // The path 0–1–2–.. of so many nodes.
+#[tactic(auto, using(crate::proofs::Paths::line_more))]
 pub(crate) fn path(count: u8) -> Map
     requires { (1 ≤ count) × (count ≤ 64) }
     ensures { net result ≡ path_of count }

@@ -24,16 +24,8 @@ pub struct Lone {
 pub struct Draws {
     /// How many contenders the node has.
     pub contenders: u8,
-    /// What a draw with 0 answered.
-    pub zero: Result<Lottery, Refusal>,
-    /// What a draw with 1 answered.
-    pub one: Result<Lottery, Refusal>,
-    /// What a draw with 3 answered.
-    pub three: Result<Lottery, Refusal>,
-    /// What a draw with 7 answered.
-    pub seven: Result<Lottery, Refusal>,
-    /// What a draw with 8 answered.
-    pub eight: Result<Lottery, Refusal>,
+    /// What the draws with 0, 1, 3, 7 and 8 answered.
+    pub answers: [Result<Lottery, Refusal>; 5],
 }
 
 /// A node in request in round 2, which got a grant of round 1.

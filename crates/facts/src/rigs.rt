@@ -54,18 +54,13 @@ fn draw_with(number: u32) -> Result<Lottery, Refusal>
 }
 
 // The lottery of a node with two contenders.
-#[tactic(auto, using(crate::proofs::Drawing::three_contenders))]
 pub(crate) fn three_contend() -> Draws
     ensures { LotteryOfThree result }
 {
     let contenders = path(3).contenders(0).len();
     Draws {
         contenders,
-        zero: draw_with(0),
-        one: draw_with(1),
-        three: draw_with(3),
-        seven: draw_with(7),
-        eight: draw_with(8),
+        answers: [0, 1, 3, 7, 8].map(draw_with),
     }
 }
 
@@ -126,6 +121,7 @@ pub(crate) fn both_request() -> Both
     let mut rig = rig_on_path(2);
     let mut queue = RackQueue::new();
     let draws = [rig.draw(0, 1, &mut queue), rig.draw(1, 1, &mut queue)];
+    // Call by call: of calls by `array::from_fn` no clause says how the last one left the rig.
     let deliveries = [
         rig.deliver(&mut queue),
         rig.deliver(&mut queue),

@@ -3,8 +3,9 @@ use map::Map;
 use radio::{CoinRadio, RackQueue};
 use refusal::Refusal;
 use rig::Rig;
-use runs::{audit, perform};
+use runs::{Performed, audit, perform};
 use schedule::Verdict;
+use std::array;
 use std::test::Fail;
 
 // The path 0–1–2–.. of so many nodes.
@@ -20,28 +21,16 @@ fn path(count: u8) -> Map {
 // An answer as a number: what the call answered, or 100 more than its refusal's.
 fn number(answer: Answer) -> u8 {
     let told = match answer {
-        Answer::Drawn(result) => match result {
-            Ok(lottery) => Ok(lottery.number()),
-            Err(refusal) => Err(refusal),
-        },
-        Answer::Delivered(result) => result,
-        Answer::Nudged(result) => result,
+        Answer::Drawn(outcome) => outcome.map(|lottery| lottery.number()),
+        Answer::Delivered(outcome) => outcome.map(|came| came.map_or(0, |kind| kind.into())),
+        Answer::Nudged(outcome) => outcome,
     };
-    match told {
-        Ok(value) => value,
-        Err(refusal) => refusal.number().saturating_add(100),
-    }
+    told.unwrap_or_else(|refusal| refusal.number().saturating_add(100))
 }
 
-// The largest slot of an accepted table, or 1,000.
-fn largest(verdict: Result<Verdict, Refusal>) -> u16 {
-    match verdict {
-        Ok(told) => match told {
-            Verdict::Accepted(slot) => slot,
-            Verdict::Clash(_) => 1000,
-        },
-        Err(_) => 1000,
-    }
+// The number of the refusal of a list of calls, or 0.
+fn refused(outcome: Result<Performed, Refusal>) -> u8 {
+    outcome.err().map_or(0, |refusal| refusal.number())
 }
 
 #[test]
@@ -63,42 +52,39 @@ fn refusals_are_part_of_a_run(rt: HostRuntime) -> Result<(), Fail> {
         Call::Deliver,
     ];
     let mut queue = RackQueue::new();
-    let mut answers = [Answer::Delivered(Ok(77)); 15];
-    let mut order = [99u8; 15];
-    let done = match perform(&path(2), &mut queue, &calls, &mut answers, &mut order) {
-        Ok(done) => done,
-        Err(refusal) => return Err(Fail::new(refusal.word())),
-    };
-    let told = [103, 111, 0, 1, 109, 1, 1, 1, 2, 2, 108, 4, 4, 0, 77];
-    for i in 0..15 {
-        assert_eq!(rt; number(answers[i]), told[i]);
-    }
+    let mut answers = [Answer::Nudged(Ok(77)); 15];
+    let mut order = [99; 15];
+    let done = perform(&path(2), &mut queue, &calls, &mut answers, &mut order).map_err(
+        |refusal| Fail::new(refusal.word()),
+    )?;
+    assert_eq!(rt;
+        answers.map(number),
+        [103, 111, 0, 1, 109, 1, 1, 1, 2, 2, 108, 4, 4, 0, 77]
+    );
     assert_eq!(rt; (done.decided, order[0], order[1]), (1, 0, 99));
-    assert_eq!(rt; largest(audit(&done.rig, &queue)), 1);
+    assert!(rt; matches!(audit(&done.rig, &queue), Ok(Verdict::Accepted(1))));
     Ok(())
 }
 
 // Node after node is drawn and nudged, over a radio that loses, repeats and reorders, until all have decided.
 #[test]
 fn a_path_over_the_coin_radio(rt: HostRuntime) -> Result<(), Fail> {
-    let mut calls = [Call::Deliver; 2400];
-    for i in 0..2400usize {
+    let calls: [Call; 2400] = array::from_fn(|i| {
         let k = (i / 10 % 6) as u8;
-        calls[i] = match i % 10 {
+        match i % 10 {
             0 => Call::Draw(k, 1),
             1 => Call::Nudge(k),
             _ => Call::Deliver,
-        };
-    }
+        }
+    });
     let mut radio = CoinRadio::new(7);
-    let mut answers = [Answer::Delivered(Ok(0)); 2400];
-    let mut order = [0u8; 2400];
-    let done = match perform(&path(6), &mut radio, &calls, &mut answers, &mut order) {
-        Ok(done) => done,
-        Err(refusal) => return Err(Fail::new(refusal.word())),
-    };
+    let mut answers = [Answer::Nudged(Ok(0)); 2400];
+    let mut order = [0; 2400];
+    let done = perform(&path(6), &mut radio, &calls, &mut answers, &mut order).map_err(
+        |refusal| Fail::new(refusal.word()),
+    )?;
     assert_eq!(rt; done.decided, 6);
-    assert!(rt; largest(audit(&done.rig, &radio)) <= 5);
+    assert!(rt; matches!(audit(&done.rig, &radio), Ok(Verdict::Accepted(slot)) if slot <= 5));
     Ok(())
 }
 
@@ -107,28 +93,18 @@ fn a_path_over_the_coin_radio(rt: HostRuntime) -> Result<(), Fail> {
 fn short_tables(rt: HostRuntime) {
     let calls = [Call::Draw(0, 1), Call::Deliver];
     let mut queue = RackQueue::new();
-    for (few, nodes) in [(1usize, 2usize), (2, 1), (0, 0)] {
-        let mut answers = [Answer::Nudged(Ok(5)); 2];
-        let mut order = [9u8; 2];
-        let refused = match perform(
-            &path(2),
-            &mut queue,
-            &calls,
-            &mut answers[0..few.min(2)],
-            &mut order[0..nodes.min(2)],
-        ) {
-            Ok(_) => 0,
-            Err(refusal) => refusal.number(),
-        };
-        assert_eq!(rt; refused, 1);
-        assert_eq!(rt; (number(answers[0]), order[0]), (5, 9));
-    }
+    let mut answers = [Answer::Nudged(Ok(5)); 2];
+    let mut order = [9; 2];
+    let few = perform(&path(2), &mut queue, &calls, &mut answers[0..1], &mut order);
+    assert_eq!(rt; refused(few), 1);
+    let few = perform(&path(2), &mut queue, &calls, &mut answers, &mut order[0..1]);
+    assert_eq!(rt; refused(few), 1);
+    let none = perform(&path(2), &mut queue, &calls, &mut [], &mut []);
+    assert_eq!(rt; refused(none), 1);
+    assert_eq!(rt; (answers.map(number), order), ([5, 5], [9, 9]));
     let mut rig = Rig::new();
     rig.open(&path(2));
     assert_eq!(rt; number(Answer::Delivered(rig.deliver(&mut queue))), 0);
-    let done = match perform(&path(3), &mut queue, &[], &mut [], &mut []) {
-        Ok(done) => done.decided,
-        Err(_) => 1,
-    };
-    assert_eq!(rt; done, 0);
+    let done = perform(&path(3), &mut queue, &[], &mut [], &mut []);
+    assert!(rt; done.is_ok_and(|done| done.decided == 0));
 }
