@@ -37,7 +37,7 @@ fn fold(answer: Result<Verdict, Refusal>) -> u32
     match answer {
         Ok(Verdict::Accepted(_)) => 0,
         Ok(Verdict::Clash((a, b))) => 256 * u32::from(a) + u32::from(b),
-        Err(refusal) => REFUSED + u32::from(refusal.number()),
+        Err(refusal) => REFUSED + u32::from(u8::from(refusal)),
     }
 }
 

@@ -40,5 +40,5 @@ fn describe(map: &Map) -> Text
 pub fn report(job: &[u8]) -> Text
     ensures { Reported job.now (written result) }
 {
-    build(job).map_or_else(Text::of_refusal, |map| describe(&map))
+    build(job).map_or_else(Text::from, |map| describe(&map))
 }

@@ -60,7 +60,7 @@ pub fn push_verdict(text: &mut Text, verdict: Result<Verdict, Refusal>)
         }
         Err(refusal) => {
             text.push_str(" refused");
-            text.push_numbers(&[usize::from(refusal.number())]);
+            text.push_numbers(&[usize::from(u8::from(refusal))]);
         }
     }
 }

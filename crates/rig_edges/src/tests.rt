@@ -24,7 +24,7 @@ fn drawn(answer: Result<Lottery, Refusal>) -> (u8, u8) {
             Lottery::Asked => (1, 0),
             Lottery::Decided => (2, 0),
         },
-        Err(refusal) => (0, refusal.number()),
+        Err(refusal) => (0, u8::from(refusal)),
     }
 }
 
@@ -32,7 +32,7 @@ fn drawn(answer: Result<Lottery, Refusal>) -> (u8, u8) {
 fn told(answer: Result<u8, Refusal>) -> (u8, u8) {
     match answer {
         Ok(value) => (value, 0),
-        Err(refusal) => (0, refusal.number()),
+        Err(refusal) => (0, u8::from(refusal)),
     }
 }
 
@@ -41,7 +41,7 @@ fn delivered(answer: Result<Option<Kind>, Refusal>) -> (u8, u8) {
     match answer {
         Ok(Some(kind)) => (kind.into(), 0),
         Ok(None) => (0, 0),
-        Err(refusal) => (0, refusal.number()),
+        Err(refusal) => (0, u8::from(refusal)),
     }
 }
 
@@ -54,14 +54,14 @@ fn phase(rig: &Rig, k: u8) -> (u8, u8) {
             Phase::Grant => (2, 0),
             Phase::Release => (3, 0),
         },
-        Err(refusal) => (0, refusal.number()),
+        Err(refusal) => (0, u8::from(refusal)),
     }
 }
 
 fn round(rig: &Rig, k: u8) -> (u16, u8) {
     match rig.round(k) {
         Ok(round) => (round, 0),
-        Err(refusal) => (0, refusal.number()),
+        Err(refusal) => (0, u8::from(refusal)),
     }
 }
 

@@ -21,16 +21,16 @@ fn path(count: u8) -> Map {
 // An answer as a number: what the call answered, or 100 more than its refusal's.
 fn number(answer: Answer) -> u8 {
     let told = match answer {
-        Answer::Drawn(outcome) => outcome.map(|lottery| lottery.number()),
+        Answer::Drawn(outcome) => outcome.map(|lottery| u8::from(lottery)),
         Answer::Delivered(outcome) => outcome.map(|came| came.map_or(0, |kind| kind.into())),
         Answer::Nudged(outcome) => outcome,
     };
-    told.unwrap_or_else(|refusal| refusal.number().saturating_add(100))
+    told.unwrap_or_else(|refusal| u8::from(refusal).saturating_add(100))
 }
 
 // The number of the refusal of a list of calls, or 0.
 fn refused(outcome: Result<Performed, Refusal>) -> u8 {
-    outcome.err().map_or(0, |refusal| refusal.number())
+    outcome.err().map_or(0, |refusal| u8::from(refusal))
 }
 
 #[test]

@@ -4,7 +4,7 @@ use std::test::Fail;
 // Why a job is refused: the refusal's number, and its index if it has one; `None` for a job that is read.
 fn refused(job: &[u8]) -> Option<(u8, Option<usize>)> {
     let refusal = read(job).err()?;
-    Some((refusal.number(), refusal.index()))
+    Some((u8::from(refusal), refusal.index()))
 }
 
 // The count of nodes, the number of links and the seed that a job sets up, or `None` if it is refused.

@@ -87,24 +87,26 @@ impl Text {
         }
     }
 
-    /// The text of a refusal: its line.
-    pub fn of_refusal(refusal: Refusal) -> Text
-        ensures { written result ≡ clip (refused_line refusal) }
-    {
-        let mut text = Text::new();
-        text.push_refusal(refusal);
-        text
-    }
-
     /// Writes the line of a refusal: the word "refused", its number and, for a bad record, its index.
     pub fn push_refusal(&mut self, refusal: Refusal)
         ensures { written self.new ≡ clip (written self.old ++ refused_line refusal) }
     {
         self.push_str("refused");
-        let number = usize::from(refusal.number());
+        let number = usize::from(u8::from(refusal));
         match refusal.index() {
             Some(index) => self.end_line(&[number, index]),
             None => self.end_line(&[number]),
         }
+    }
+}
+
+/// The text of a refusal: its line.
+impl From<Refusal> for Text {
+    ghost from_gives = { λ refusal text. written text ≡ clip (refused_line refusal) };
+
+    fn from(refusal: Refusal) -> Text {
+        let mut text = Text::new();
+        text.push_refusal(refusal);
+        text
     }
 }

@@ -30,6 +30,6 @@ pub returns-in-Err : goal.returns-in-Err
 returns-in-Err c =
     let s = written c.args.text.now in
     written_of s (written c.push_numbers-in-Err.new.self) c.args.verdict (Err c.in-Err.refusal) c.in-Err.is
-    (and_then s (written c.push_str-in-Err.new.self) (written c.push_numbers-in-Err.new.self) (codes " refused") (spaced (c.from-in-Err.result ∷ []))
+    (and_then s (written c.push_str-in-Err.new.self) (written c.push_numbers-in-Err.new.self) (codes " refused") (spaced (c.from-in-Err-2.result ∷ []))
     c.push_str-in-Err.ensures c.push_numbers-in-Err.ensures
-    ∙ ap (λ (x : ℕ). clip (s ++ (codes " refused" ++ spaced (x ∷ [])))) (c.from-in-Err.ensures ∙ c.number.ensures))
+    ∙ ap (λ (x : ℕ). clip (s ++ (codes " refused" ++ spaced (x ∷ [])))) (c.from-in-Err-2.ensures ∙ c.from-in-Err.ensures))
