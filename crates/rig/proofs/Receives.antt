@@ -24,7 +24,7 @@ made_is w rig rig' s s' a b e em en es =
 
 -- a grant is counted, and v is the node then
 
-module _ {S : Type 0} (w : Ways S) (rig rig' : Rig) (s s' : S) (x : Message) (v : Node) (l : x.receiver < nodes rig.map) (t : waits (at rig.nodes x.receiver) x.round ≡ true)
+module _ {S : Type 0} (w : Ways S) (rig rig' : Rig) (s s' : S) (x : Message) (v : Node) (l : x.receiver < 64) (t : waits (at rig.nodes x.receiver) x.round ≡ true)
     (q : v ≡ counted (at rig.nodes x.receiver) x.sender x.slots) where
   counts_is : put rig.nodes x.receiver v ≡ counts rig.map rig.nodes x
   counts_is = ap (put rig.nodes x.receiver) q
@@ -32,7 +32,6 @@ module _ {S : Type 0} (w : Ways S) (rig rig' : Rig) (s s' : S) (x : Message) (v 
   complete_is : (r : Bool) → not (some_below (lacks rig.map v.granted x.receiver) (nodes rig.map)) ≡ r → complete rig.map (counts rig.map rig.nodes x) x.receiver ≡ r
   complete_is r e =
       let full = rig.full in
-      let most = rig.map.most in
       ap (λ (u : Node). not (some_below (lacks rig.map u.granted x.receiver) (nodes rig.map)))
       (at-put rig.nodes x.receiver (counted (at rig.nodes x.receiver) x.sender x.slots) (omega arith) ∙ sym q)
       ∙ e
@@ -68,14 +67,13 @@ frees_is m b x v e = ap (λ (u : Node). put b x.receiver (freed_by u x)) (sym e)
     go false = set-get_or b x.receiver blank
 
 module _ {S : Type 0} (w : Ways S) (rig rig' : Rig) (s s' : S) (x : Message) (known : foreign rig.map x ≡ false) (v : Node) where
-  pub release_frees : x.kind ≡ 4 → x.receiver < nodes rig.map → v ≡ freed_by (hearing (at rig.nodes x.receiver) x.slot) x
+  pub release_frees : x.kind ≡ 4 → x.receiver < 64 → v ≡ freed_by (hearing (at rig.nodes x.receiver) x.slot) x
       → rig'.map ≡ rig.map → rig'.nodes ≡ put rig.nodes x.receiver v → s' ≡ s
       → Made w rig rig' s s' (received rig.map rig.nodes x).board (received rig.map rig.nodes x).sent
   release_frees e l q em en es =
       let b = rig.nodes in
       let h = hearing (at b x.receiver) x.slot in
       let full = rig.full in
-      let most = rig.map.most in
       made_is w rig rig' s s' (received rig.map b x) (sends rig.map (frees rig.map (hears rig.map b x) x) [] ReleaseKind)
       (cond-false (foreign rig.map x) _ _ known ∙ cond-false (eqb x.kind 1) _ _ (ne_eqb x.kind 1 (λ z. omega arith))
       ∙ cond-false (eqb x.kind 2) _ _ (ne_eqb x.kind 2 (λ z. omega arith)) ∙ cond-false (eqb x.kind 3) _ _ (ne_eqb x.kind 3 (λ z. omega arith))

@@ -13,6 +13,7 @@ use Rattle.radio.specs.declared.kind.Kind.TheVariants.{Request as RequestKind, G
 use Rattle.radio.specs.declared.message.Message.{Message}
 use Rattle.radio.specs.Kinds.{kind_number}
 use Rattle.schedule.specs.Rand.{first_from}
+use Rattle.rig.specs.declared.delivery.Delivery.{Delivery}
 use Rattle.rig.specs.declared.node.Node.{Node}
 use Rattle.rig.specs.declared.node.Phase.{Phase}
 use Rattle.rig.specs.declared.node.Phase.TheVariants.{Idle, Request, Grant, Release}
@@ -184,9 +185,9 @@ module _ (m : Map) where
       (x.kind == 0 || nat_lt 5 x.kind)
       || (not (linked m x.sender x.receiver) || (x.kind == 4 && (x.slot == 0 || nat_lt 64 x.slot)))
 
-  -- the kind of a message that is not foreign, or else Foreign
-  abbrev pub Sorts : Message → Result Kind Refusal → Type 0
-  Sorts x r = MatchResult r (λ kind. (kind_number kind ≡ x.kind) × (foreign x ≡ false)) (λ e. (e ≡ Foreign) × (foreign x ≡ true))
+  -- the message with its kind, if it is not foreign, or else Foreign
+  abbrev pub Accepts : Message → Result Delivery Refusal → Type 0
+  Accepts x r = MatchResult r (λ d. (d.message ≡ x) × (kind_number d.kind ≡ x.kind) × (foreign x ≡ false)) (λ e. (e ≡ Foreign) × (foreign x ≡ true))
 
   -- what a message of this kind makes: these nodes, these messages, and the kind as the answer
   abbrev pub sends : Board → List Message → Kind → After (Option Kind)

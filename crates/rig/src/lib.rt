@@ -6,6 +6,7 @@ ghost use Rattle.rig.specs.Calm.{Calm};
 
 use map::Map;
 
+mod delivery;
 mod drawing;
 mod node;
 mod opening;

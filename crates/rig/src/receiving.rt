@@ -1,20 +1,20 @@
 //! Deliver: what a node does with a message.
-ghost use Rattle.std.specs.Prelude.{◌≡◌, ◌<◌};
-ghost use Rattle.map.specs.View.{nodes};
+ghost use Rattle.std.specs.Prelude.{◌≡◌};
 ghost use Rattle.rig.specs.Calm.{at};
 ghost use Rattle.rig.specs.Laws.{LawfulDelivery};
-ghost use Rattle.rig.specs.Made.{Does, Made};
-ghost use Rattle.rig.specs.Steps.{Sorts, delivered, on_grant, on_request, received};
+ghost use Rattle.rig.specs.Made.{Does};
+ghost use Rattle.rig.specs.Steps.{Accepts, delivered, on_grant, on_request, received};
 
+use crate::delivery::Delivery;
 use crate::{Node, Phase, Rig};
 use radio::{Kind, Message, Radio};
 use refusal::Refusal;
 
 impl Rig {
-    fn on_request<R: Radio>(&mut self, x: Message, radio: &mut R)
-        requires { x.receiver < nodes self.old.map }
-        ensures { Does R.ways self.old self.new (R.state radio.old) (R.state radio.new) (λ m b. on_request m b x (at b x.receiver).phase) }
+    fn on_request<R: Radio>(&mut self, delivery: Delivery, radio: &mut R)
+        ensures { let x = delivery.message in Does R.ways self.old self.new (R.state radio.old) (R.state radio.new) (λ m b. on_request m b x (at b x.receiver).phase) }
     {
+        let x = delivery.message;
         let node = self.nodes[x.receiver as usize];
         let grant = node.grant(x.round, x.receiver, x.sender);
         match node.phase {
@@ -32,10 +32,10 @@ impl Rig {
         }
     }
 
-    fn on_grant<R: Radio>(&mut self, x: Message, radio: &mut R)
-        requires { x.receiver < nodes self.old.map }
-        ensures { Does R.ways self.old self.new (R.state radio.old) (R.state radio.new) (λ m b. on_grant m b x) }
+    fn on_grant<R: Radio>(&mut self, delivery: Delivery, radio: &mut R)
+        ensures { Does R.ways self.old self.new (R.state radio.old) (R.state radio.new) (λ m b. on_grant m b delivery.message) }
     {
+        let x = delivery.message;
         let node = self.nodes[x.receiver as usize];
         if node.waits_in(x.round) {
             let counted = node.counted(x);
@@ -53,29 +53,29 @@ impl Rig {
         }
     }
 
-    // The kind of a message that its receiver can act on; refuses any other by `Foreign`.
-    fn kind(&self, x: Message) -> Result<Kind, Refusal>
-        ensures { Sorts self.now.map x result }
+    // The message with its kind; refuses a foreign one by `Foreign`.
+    fn accept(&self, message: Message) -> Result<Delivery, Refusal>
+        ensures { Accepts self.now.map message result }
     {
-        let Ok(kind) = Kind::try_from(x.kind) else {
+        let Ok(kind) = Kind::try_from(message.kind) else {
             return Err(Refusal::Foreign);
         };
-        let no_slot = kind == Kind::Release && (x.slot == 0 || x.slot > 64);
-        if no_slot || !self.map.linked(x.sender, x.receiver) {
+        let no_slot = kind == Kind::Release && (message.slot == 0 || message.slot > 64);
+        if no_slot || !self.map.linked(message.sender, message.receiver) {
             return Err(Refusal::Foreign);
         }
-        Ok(kind)
+        Ok(Delivery { kind, message })
     }
 
     fn receive<R: Radio>(&mut self, x: Message, radio: &mut R) -> Result<Option<Kind>, Refusal>
         ensures made { Does R.ways self.old self.new (R.state radio.old) (R.state radio.new) (λ m b. received m b x) }
         ensures value { result ≡ (received self.old.map self.old.nodes x).answer }
     {
-        let kind = self.kind(x)?;
+        let delivery = self.accept(x)?;
         let node = self.nodes[x.receiver as usize];
-        match kind {
-            Kind::Request => self.on_request(x, radio),
-            Kind::Grant => self.on_grant(x, radio),
+        match delivery.kind {
+            Kind::Request => self.on_request(delivery, radio),
+            Kind::Grant => self.on_grant(delivery, radio),
             Kind::Reject => {
                 if node.waits_in(x.round) {
                     self.give_up(x.receiver, radio);
@@ -86,7 +86,7 @@ impl Rig {
             }
             Kind::Fail => self.nodes[x.receiver as usize] = node.freed_by(x),
         }
-        Ok(Some(kind))
+        Ok(Some(delivery.kind))
     }
 
     /// Takes one message from the radio and lets its receiver act on it. Answers the message's kind,

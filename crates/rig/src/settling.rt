@@ -12,7 +12,7 @@ use radio::{Kind, Message, Radio};
 impl Rig {
     /// Node `k` gives its round up.
     pub(crate) fn give_up<R: Radio>(&mut self, k: u8, radio: &mut R)
-        requires { k < nodes self.old.map }
+        requires { k < 64 }
         ensures { Made R.ways self.old self.new (R.state radio.old) (R.state radio.new) (gave_up self.old.map self.old.nodes k) (fail_all self.old.map self.old.nodes k) }
     {
         let node = self.nodes[k as usize];
@@ -33,7 +33,7 @@ impl Rig {
 
     /// Node `k` takes the smallest slot that is not taken, or gives up if all 64 are.
     pub(crate) fn settle<R: Radio>(&mut self, k: u8, radio: &mut R)
-        requires { k < nodes self.old.map }
+        requires { k < 64 }
         ensures { Made R.ways self.old self.new (R.state radio.old) (R.state radio.new) (settled self.old.map self.old.nodes k) (settled_sent self.old.map self.old.nodes k) }
     {
         let node = self.nodes[k as usize];

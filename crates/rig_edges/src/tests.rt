@@ -19,12 +19,8 @@ fn path(count: u8) -> Rig {
 // What a draw answers: 0 lost, 1 asked, 2 decided; and the number of its refusal, or 0.
 fn drawn(answer: Result<Lottery, Refusal>) -> (u8, u8) {
     match answer {
-        Ok(lottery) => match lottery {
-            Lottery::Lost => (0, 0),
-            Lottery::Asked => (1, 0),
-            Lottery::Decided => (2, 0),
-        },
-        Err(refusal) => (0, u8::from(refusal)),
+        Ok(lottery) => (lottery.into(), 0),
+        Err(refusal) => (0, refusal.number()),
     }
 }
 
@@ -32,7 +28,7 @@ fn drawn(answer: Result<Lottery, Refusal>) -> (u8, u8) {
 fn told(answer: Result<u8, Refusal>) -> (u8, u8) {
     match answer {
         Ok(value) => (value, 0),
-        Err(refusal) => (0, u8::from(refusal)),
+        Err(refusal) => (0, refusal.number()),
     }
 }
 
@@ -41,7 +37,7 @@ fn delivered(answer: Result<Option<Kind>, Refusal>) -> (u8, u8) {
     match answer {
         Ok(Some(kind)) => (kind.into(), 0),
         Ok(None) => (0, 0),
-        Err(refusal) => (0, u8::from(refusal)),
+        Err(refusal) => (0, refusal.number()),
     }
 }
 
@@ -54,14 +50,14 @@ fn phase(rig: &Rig, k: u8) -> (u8, u8) {
             Phase::Grant => (2, 0),
             Phase::Release => (3, 0),
         },
-        Err(refusal) => (0, u8::from(refusal)),
+        Err(refusal) => (0, refusal.number()),
     }
 }
 
 fn round(rig: &Rig, k: u8) -> (u16, u8) {
     match rig.round(k) {
         Ok(round) => (round, 0),
-        Err(refusal) => (0, u8::from(refusal)),
+        Err(refusal) => (0, refusal.number()),
     }
 }
 

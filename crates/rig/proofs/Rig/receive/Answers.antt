@@ -1,5 +1,4 @@
 use Rattle.std.proofs.Common.{◌≡◌, ◌<◌, false, rules, refl}
-use Rattle.map.specs.View.{nodes}
 use Rattle.rig.specs.Steps.{foreign}
 use Rattle.rig.proofs.Receives.{release_frees, fail_frees}
 use Rattle.rig.proofs.Rig.receive.Goals as goal
@@ -10,7 +9,7 @@ returns-in-Release-clause-made g c =
     let x = c.args.x in
     let known : foreign rig.map x ≡ false = search rules in
     let kind : x.kind ≡ 4 = search rules in
-    let inside : x.receiver < nodes rig.map = search rules in
+    let inside : x.receiver < 64 = search rules in
     release_frees g.R.Radio.ways rig _ _ _ x known c.freed_by.result kind inside (search rules) refl refl refl
 
 pub returns-in-Fail-clause-made : goal.returns-in-Fail-clause-made
