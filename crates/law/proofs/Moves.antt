@@ -66,7 +66,7 @@ module _ (lk : ℕ → ℕ → Bool) (nd : ℕ → Node) (inv : Nodes lk nd) (k 
     rounds = omega arith;
     hears = λ j _ h. h;
     gone = λ r o. inl (⊎_elim (λ l. omega arith) (λ p. let h = p.0 in omega arith) o);
-    live = λ r l p. absurd (let h = p.1 in let z : ⊥ = omega arith in z);
+    live = λ r l p. absurd (let h = p.1 in omega arith);
     fresh = λ j s. inl s;
     locks = λ a r l. absurd (g l.0);
   }
