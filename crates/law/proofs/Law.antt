@@ -1,5 +1,5 @@
 -- Every run keeps the law.
-use Rattle.std.proofs.Common.{◌≡◌, ℕ, ◌<◌, ◌≤◌, Bool, true, false, not, ◌||◌, eqb, ltb, ◌⊎◌, List, [], ◌∷◌, ◌++◌, Some, sym, refl, ap, ◌∙◌, subst, inl, inr, ⊎_elim, append-nil, arith}
+use Rattle.std.proofs.Common.{◌≡◌, ℕ, ◌<◌, ◌≤◌, Bool, true, false, not, ◌||◌, eqb, ltb, ◌⊎◌, List, [], ◌∷◌, ◌++◌, Some, sym, refl, ap, ◌∙◌, inl, inr, ⊎_elim, append-nil, arith}
 use mathlib.Core.Path.{fun_ext}
 use mathlib.Core.List.Memᴰ
 use Rattle.std.proofs.lemmas.Bool.{cases_Bool, cases_eq, eq-eqb, ne_eqb, and_from, and_left, and_right, or_parts, not-false}
@@ -71,7 +71,7 @@ stays_put b b' k e = ⊎_elim
 module _ (m : Map) where
   ranks_on : (order : List ℕ) (b b' : Board) → Same b b' ⊎ ((k : ℕ) × Settles m b b' k) → Ranks m order b → Ranks m (order ++ deciders m b b') b'
   ranks_on order b b' (inl s) r =
-      rw (each_none (decides b b') (λ k. k) (nodes m) (λ k l. stays_put b b' k (s.slot k)), append-nil order) ((ranks_same m order b b' s r))
+      rw (each_none (decides b b') (λ k. k) (nodes m) (λ k l. stays_put b b' k (s.slot k)), append-nil order) (ranks_same m order b b' s r)
   ranks_on order b b' (inr (k, s)) r = rw one (ranks_more m order b b' k s r)
     where
       one : deciders m b b' ≡ k ∷ []
@@ -146,7 +146,7 @@ module _ {S : Type 0} (w : Ways S) (rule : AirRule w) (m : Map) where
             let live = waits_live (at b x.receiver) x.round q in
             let kept = counts_kept m b i.fine x said.fact (link said.home) e live in
             let here' = here m b i.fine x.receiver (counted (at b x.receiver) x.sender x.slots) (inside (link said.home)) in
-            subst (λ (v : Node). lowest v.taken < 64) here'
+            rw here' at
             (slot_free m (at (counts m b x)) kept.fine.nodes x.receiver (inside (link said.home)) (ap (λ (v : Node). v.phase) here' ∙ live.0))
           where
             link : foreign m x ≡ false → linked m x.sender x.receiver ≡ true

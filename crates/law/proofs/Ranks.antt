@@ -1,5 +1,5 @@
 -- The order of deciding: RAND's slots for it, and a place in it for each decided node.
-use Rattle.std.proofs.Common.{◌≡◌, ℕ, zero, suc, ◌+◌, ◌<◌, Bool, true, false, cond, not, eqb, ◌⊎◌, List, [], ◌∷◌, ◌++◌, length, get_or, Ok, sym, refl, ap, ◌∙◌, subst, ap₂, inl, inr, ⊎_elim, arith}
+use Rattle.std.proofs.Common.{◌≡◌, ℕ, zero, suc, ◌+◌, ◌<◌, Bool, true, false, cond, not, eqb, ◌⊎◌, List, [], ◌∷◌, ◌++◌, length, get_or, Ok, sym, refl, ap, ◌∙◌, ap₂, inl, inr, ⊎_elim, arith}
 use Rattle.std.proofs.lemmas.List.{get_or_append_left, get_or_push, length_push}
 use Rattle.std.proofs.lemmas.Bool.{cases_eq, cases_lt, eq-eqb, ne_eqb}
 use Rattle.marks.specs.Below.{sum_below, count_below}
@@ -66,8 +66,8 @@ module _ (m : Map) where
   pub ranks_same : (order : List ℕ) (b b' : Board) → Same b b' → Ranks order b → Ranks order b'
   ranks_same order b b' s r = record {
     slots = λ k l. s.slot k ∙ r.slots k l;
-    named = λ i l. let (x, y, z) = r.named i l in (x, subst (λ (v : ℕ). 0 < v) (sym (s.slot (get_or order i 0))) y, s.turn (get_or order i 0) ∙ z);
-    all = λ k l h. r.all k l (subst (λ (v : ℕ). 0 < v) (s.slot k) h);
+    named = λ i l. let (x, y, z) = r.named i l in (x, (let e = s.slot (get_or order i 0) in omega arith), s.turn (get_or order i 0) ∙ z);
+    all = λ k l h. r.all k l (let e = s.slot k in omega arith);
     none = λ k l e. s.turn k ∙ r.none k l (sym (s.slot k) ∙ e);
     count = count_same (nodes m) b b' s ∙ r.count;
   }
@@ -92,16 +92,16 @@ module _ (m : Map) where
       idle i l e (inr d) = (s.others i d).1 ∙ r.none i l (sym (s.others i d).0 ∙ e)
 
       name : (i : ℕ) → (i < length order) ⊎ (i ≡ length order) → (get_or (order ++ (k ∷ [])) i 0 < nodes m) × (0 < (at b' (get_or (order ++ (k ∷ [])) i 0)).slot) × ((at b' (get_or (order ++ (k ∷ [])) i 0)).turn ≡ suc i)
-      name i (inl l) = subst (λ (a : ℕ). (a < nodes m) × (0 < (at b' a).slot) × ((at b' a).turn ≡ suc i)) (sym (get_or_append_left order (k ∷ []) 0 i l))
+      name i (inl l) = rw (get_or_append_left order (k ∷ []) 0 i l)
           (let (x, y, z) = r.named i l in
           let off : get_or order i 0 ≡ k → ⊥ = λ e. (let u : (at b (get_or order i 0)).slot ≡ 0 = ap (λ (j : ℕ). (at b j).slot) e ∙ s.before in omega arith) in
-          (x, subst (λ (v : ℕ). 0 < v) (sym (s.others (get_or order i 0) off).0) y, (s.others (get_or order i 0) off).1 ∙ z))
-      name i (inr e) = subst (λ (a : ℕ). (a < nodes m) × (0 < (at b' a).slot) × ((at b' a).turn ≡ suc i)) (sym (get_or_push order k 0 i (sym e)))
+          (x, (let e = (s.others (get_or order i 0) off).0 in omega arith), (s.others (get_or order i 0) off).1 ∙ z))
+      name i (inr e) = rw (get_or_push order k 0 i (sym e))
           (s.inside, s.after, s.place ∙ ap suc (r.count ∙ sym e))
 
       whole : (i : ℕ) → i < nodes m → 0 < (at b' i).slot → (i ≡ k) ⊎ (i ≡ k → ⊥) → (j : ℕ) × (j < length (order ++ (k ∷ []))) × (get_or (order ++ (k ∷ [])) j 0 ≡ i)
       whole i l h (inl e) = (length order, (let q = length_push order k in omega arith), get_or_push order k 0 (length order) refl ∙ sym e)
-      whole i l h (inr d) = let (j, g, e) = r.all i l (subst (λ (v : ℕ). 0 < v) (s.others i d).0 h) in
+      whole i l h (inr d) = let (j, g, e) = r.all i l (let e = (s.others i d).0 in omega arith) in
           (j, (let q = length_push order k in omega arith), get_or_append_left order (k ∷ []) 0 j g ∙ e)
 
   pub slot_law : (order : List ℕ) (b : Board) → Ranks order b → SlotLaw m order b
@@ -136,4 +136,4 @@ module _ (m : Map) where
       accepted : (table : List ℕ) → Tells m b table → Checked (contend m) (nodes m) table (Ok (Accepted (frame m b)))
       accepted table t =
           let (v, c) = rand_accepted (contend m) (nodes m) (contend_mutual m) (contend_apart m) order table t.long (rand_like (contend m) (nodes m) order (entries table) fine (λ k l. t.each k l ∙ r.slots k l)) in
-          subst (λ (x : ℕ). Checked (contend m) (nodes m) table (Ok (Accepted x))) (largest_is (nodes m) table v c.1.1 ∙ max_like (entries table) (λ k. (at b k).slot) (nodes m) t.each) c
+          rw (largest_is (nodes m) table v c.1.1 ∙ max_like (entries table) (λ k. (at b k).slot) (nodes m) t.each) at c
