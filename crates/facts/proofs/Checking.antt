@@ -1,7 +1,6 @@
 -- The checker on a path of three nodes, computed.
-use Rattle.std.proofs.Common.{◌≡◌, ℕ, ◌<◌, ◌≤◌, List, [], ◌∷◌, length, get_or, Ok, Err, Result, sym, refl, ap, subst, ap₂, inl, inr, arith}
+use Rattle.std.proofs.Common.{◌≡◌, ℕ, ◌<◌, ◌≤◌, List, [], ◌∷◌, length, get_or, Ok, Err, Result, sym, refl, ap, subst, ap₂, inr, arith}
 use Rattle.marks.specs.Below.{some_below, max_below}
-use Rattle.refusal.specs.Entry.{entry as told}
 use Rattle.refusal.specs.declared.Refusal.{Refusal}
 use Rattle.refusal.proofs.Why.{Why-cases}
 use Rattle.map.specs.View.{Net, net, nodes, contend}
@@ -37,7 +36,7 @@ largest_apart v l = largest_is 3 apart v l
 
 -- a table of three is not too short
 long : (slots : List ℕ) → length slots ≡ 3 → (e : Refusal) → Checked (contend_of (path 3)) 3 slots (Err e) → ⊥
-long slots l e h = elim (Why-cases (told e).number 1 (length slots < 3) ⊥ h) [ inl q ↦ omega arith | inr q ↦ q ]
+long slots l e h = grind (arith, Why-cases)
 
 pub shared_is : (m : Map) (r : Result Verdict Refusal) → net m ≡ path 3 → Checked (contend m) (nodes m) shared r → r ≡ Ok (Clash (0, 2))
 shared_is m r e p = go r (subst (λ (n : Net). Checked (contend_of n) n.size shared r) e p)

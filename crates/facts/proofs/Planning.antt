@@ -2,13 +2,13 @@
 use Rattle.std.proofs.Common.{◌≡◌, ℕ, zero, suc, ◌<◌, ◌≤◌, List, [], ◌∷◌, length, get_or, Ok, Err, Result, refl, ap, ◌∙◌, subst, inl, inr, arith}
 use Rattle.std.proofs.lemmas.List.{ext_get_or}
 use Rattle.marks.specs.Below.{some_below}
-use Rattle.refusal.specs.Entry.{entry as told, Why}
+use Rattle.refusal.specs.Entry.{entry as told}
 use Rattle.refusal.specs.declared.Refusal.{Refusal}
 use Rattle.refusal.proofs.Why.{Why-cases}
 use Rattle.map.specs.View.{Net, net, nodes, contend}
 use Rattle.map.specs.declared.Map.{Map}
 use Rattle.schedule.specs.Rand.{first_from, least, from, rand}
-use Rattle.schedule.specs.Order.{NoItem, NamedTwice, Disordered, Planned}
+use Rattle.schedule.specs.Order.{Disordered, Planned}
 use Rattle.facts.specs.Paths.{path}
 use Rattle.facts.proofs.Nets.{contend_of}
 
@@ -27,10 +27,7 @@ below : (i : ℕ) → i < 4 → get_or order i 0 < 4
 below i l = grind arith
 
 well_ordered : (number : ℕ) → Disordered 4 order number → ⊥
-well_ordered number h = elim (Why-cases number 3 (NoItem 4 order) (Why number 5 (NamedTwice 4 order) ⊥) h) [
-  | inl (i, l, _, q) ↦ let f = below i l in omega arith
-  | inr k ↦ elim (Why-cases number 5 (NamedTwice 4 order) ⊥ k) [ inl (i, l, _, _, (j, h, e)) ↦ once i l j h e | inr z ↦ z ]
-]
+well_ordered number h = grind (arith, Why-cases, below, once)
 
 rands : (k : ℕ) → k < 4 → rand (contend_of (path 4)) 4 order k ≡ get_or slots k 0
 unfolding some_below first_from least from
