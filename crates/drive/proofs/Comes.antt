@@ -1,11 +1,13 @@
 -- What a delivery makes of an episode; and two of the three about a neighbour: the request comes, the release comes.
-use Rattle.std.proofs.Common.{◌≡◌, ℕ, suc, ◌+◌, ◌<◌, ◌≤◌, Bool, true, false, not, ◌||◌, eqb, ltb, ◌⊎◌, List, [], ◌∷◌, length, Ok, sym, refl, ap, ◌∙◌, subst, ap₂, inl, inr, arith}
+use Rattle.std.proofs.Common.{◌≡◌, ℕ, suc, ◌+◌, ◌<◌, ◌≤◌, Bool, true, false, not, ◌||◌, eqb, ltb, ◌⊎◌, List, [], ◌∷◌, length, Some, Ok, Option, sym, refl, ap, ◌∙◌, subst, ap₂, inl, inr, arith}
 use mathlib.Core.List.Memᴰ
 use Rattle.std.proofs.lemmas.List.{length-set}
 use Rattle.std.proofs.lemmas.Bool.{both_ways, cases_eq, and_from, or_from, eq-eqb, ne_eqb, le-ltb, cond_both, cond-true, cond-false}
 use Rattle.marks.specs.View.{marked}
 use Rattle.map.specs.View.{linked}
 use Rattle.map.specs.declared.Map.{Map}
+use Rattle.radio.specs.declared.kind.Kind.{Kind}
+use Rattle.radio.specs.declared.kind.Kind.TheVariants.{Request as RequestKind, Release as ReleaseKind}
 use Rattle.radio.specs.declared.message.Message.{Message}
 use Rattle.rig.specs.declared.node.Node.{Node}
 use Rattle.rig.specs.declared.node.Phase.{Phase}
@@ -41,12 +43,12 @@ only_put a b k v l es er = record {
 
 module _ (m : Map) (a r : ℕ) where
   -- what a delivery makes of an episode, with ys left in the air
-  pub record Went (b : Board) (ys : List Message) (o : After ℕ) : Type 0 where
+  pub record Went (b : Board) (ys : List Message) (o : After (Option Kind)) : Type 0 where
     pub episode : (zs : List Message) → Into ys o.sent zs → Episode m a r (at o.board) zs
     pub less : work m a (at b) ≡ work m a (at o.board) + 1
     pub only : Only a b o.board
     pub few : length o.sent ≤ 64
-    pub came : (kind : ℕ) × (0 < kind) × (o.answer ≡ Ok kind)
+    pub came : (kind : Kind) × (o.answer ≡ Ok (Some kind))
 
   module _ (b : Board) (long : length b ≡ 64) (k : ℕ) (link : linked m a k ≡ true) (xs ys : List Message) (ep : Episode m a r (at b) xs) where
     far : k ≡ a → ⊥
@@ -107,12 +109,12 @@ module _ (m : Map) (a r : ℕ) where
       }
 
       pub request_comes : Out (request r a k) xs ys → Went b ys (received m b (request r a k))
-      request_comes out = subst (λ (o : After ℕ). Went b ys o) (sym (received-request g)) (record {
+      request_comes out = subst (λ (o : After (Option Kind)). Went b ys o) (sym (received-request g)) (record {
         episode = moves m a r (at b) (at asked_board) k link (request r a k) xs ys _ out ep refl asked_moved;
         less = works m a r (at b) (at asked_board) k link (request r a k) xs ys _ out ep refl asked_moved;
         only = only_put a b k (bound (at b k) a r) in_k refl refl;
         few = omega arith;
-        came = (1, omega arith, refl);
+        came = (RequestKind, refl);
       })
 
     -- the release comes
@@ -168,19 +170,19 @@ module _ (m : Map) (a r : ℕ) where
           subst (λ (v : Node). serves v a r ≡ true) (sym (at-put b k (hearing (at b k) (suc t)) in_k))
           (and_from (is_grant (at b k).phase) _ g (and_from (eqb (at b k).holder a) (eqb (at b k).term r) (eq-eqb (at b k).holder a h) (eq-eqb (at b k).term r e)))
 
-      received-release : received m b (release (suc t) r a k) ≡ sends m told_board [] 4
+      received-release : received m b (release (suc t) r a k) ≡ sends m told_board [] ReleaseKind
       received-release =
           cond-false (foreign m (release (suc t) r a k)) _ _ (ap₂ (λ (v w : Bool). not v || w) link (or_from (eqb (suc t) 0) (ltb 64 (suc t)) (ne_eqb (suc t) 0 (λ z. omega arith)) (le-ltb 64 (suc t) (omega arith))))
-          ∙ ap (λ (c : Board). sends m c [] 4) (cond-true (serves (at heard_board k) a r) _ _ frees_k)
+          ∙ ap (λ (c : Board). sends m c [] ReleaseKind) (cond-true (serves (at heard_board k) a r) _ _ frees_k)
 
       told_only : Only a b told_board
       told_only = only_then a b heard_board told_board (only_put a b k (hearing (at b k) (suc t)) in_k refl refl) (only_put a heard_board k (freed (at heard_board k)) heard_long refl refl)
 
       pub release_comes : Out (release (suc t) r a k) xs ys → Went b ys (received m b (release (suc t) r a k))
-      release_comes out = subst (λ (o : After ℕ). Went b ys o) (sym received-release) (record {
+      release_comes out = subst (λ (o : After (Option Kind)). Went b ys o) (sym received-release) (record {
         episode = moves m a r (at b) (at told_board) k link (release (suc t) r a k) xs ys [] out ep refl told_moved;
         less = works m a r (at b) (at told_board) k link (release (suc t) r a k) xs ys [] out ep refl told_moved;
         only = told_only;
         few = omega arith;
-        came = (4, omega arith, refl);
+        came = (ReleaseKind, refl);
       })

@@ -1,12 +1,12 @@
 -- The calls of an episode: the draw, each delivery that brings a message, and the one that brings nothing.
-use Rattle.std.proofs.Common.{◌≡◌, ℕ, ◌+◌, ◌*◌, ◌<◌, List, [], ◌∷◌, ◌++◌, map, length, get_or, replicate, Some, None, Ok, Option, Result, sym, refl, ap, ◌∙◌, subst, ⊎_elim, append_assoc, append-nil, arith}
+use Rattle.std.proofs.Common.{◌≡◌, ℕ, ◌+◌, ◌*◌, ◌<◌, List, [], ◌∷◌, ◌++◌, map, length, replicate, Some, None, Ok, Option, Result, sym, refl, ap, ◌∙◌, subst, append_assoc, append-nil, arith}
 use mathlib.Core.List.Memᴰ
-use Rattle.std.proofs.lemmas.List.{length_push, get_or_push, get_or_append_left, replicate_more, map_push}
-use Rattle.std.proofs.lemmas.Bool.{cases_lt}
+use Rattle.std.proofs.lemmas.List.{length_push, replicate_more, map_push}
 use Rattle.refusal.specs.declared.Refusal.{Refusal}
 use Rattle.map.specs.View.{nodes, degree}
 use Rattle.map.specs.declared.Map.{Map}
 use Rattle.radio.specs.Ways.{Ways, AirRule, In, puts}
+use Rattle.radio.specs.declared.kind.Kind.{Kind}
 use Rattle.radio.specs.declared.message.Message.{Message}
 use Rattle.rig.specs.declared.Lottery.{Lottery}
 use Rattle.rig.specs.Calm.{at}
@@ -29,13 +29,6 @@ use Rattle.drive.proofs.Episode.{work, Busy}
 none_in : (xs : List Message) → ((y : Message) → In y xs → ⊥) → xs ≡ []
 none_in [] h = refl
 none_in (x ∷ xs) h = absurd (h x (Memᴰ.head refl))
-
--- one more of a list of numbers that are not 0
-all_push : (kinds : List ℕ) (kind : ℕ) → ((i : ℕ) → i < length kinds → 0 < get_or kinds i 0) → 0 < kind → (i : ℕ) → i < length (kinds ++ (kind ∷ [])) → 0 < get_or (kinds ++ (kind ∷ [])) i 0
-all_push kinds kind h k i l = ⊎_elim
-    (λ q. subst (λ (v : ℕ). 0 < v) (sym (get_or_append_left kinds (kind ∷ []) 0 i q)) (h i q))
-    (λ q. subst (λ (v : ℕ). 0 < v) (sym (get_or_push kinds kind 0 i (let e = length_push kinds kind in omega arith))) k)
-    (cases_lt i (length kinds))
 
 pub calls_as : {S : Type 0} {w : Ways S} {m : Map} {b₀ : Board} {s₀ : S} {calls calls' : List Call} {answers answers' : List Answer} {order order' : List ℕ} {b : Board} {s : S}
     → calls ≡ calls' → answers ≡ answers' → order ≡ order' → Calls w m b₀ s₀ calls answers order b s → Calls w m b₀ s₀ calls' answers' order' b s
@@ -88,10 +81,9 @@ pub record Going {S : Type 0} (w : Ways S) (m : Map) (a : ℕ) (b₁ : Board) (s
   pub busy : Busy w m a (at b₁ a).round b s
   pub sum : count + work m a (at b) ≡ work m a (at b₁)
   pub only : Only a b₁ b
-  pub kinds : List ℕ
-  pub came : (i : ℕ) → i < length kinds → 0 < get_or kinds i 0
+  pub kinds : List Kind
   pub long : length kinds ≡ count
-  pub made : Calls w m b₁ s₁ (replicate (length kinds) Deliver) (map (λ kind. Delivered (Ok kind)) kinds) (deciders m b₁ b) b s
+  pub made : Calls w m b₁ s₁ (replicate (length kinds) Deliver) (map (λ kind. Delivered (Ok (Some kind))) kinds) (deciders m b₁ b) b s
 
 pub goes_first : {S : Type 0} (w : Ways S) (m : Map) (a : ℕ) (b₁ : Board) (s₁ : S) → Busy w m a (at b₁ a).round b₁ s₁ → Going w m a b₁ s₁ b₁ s₁ 0
 goes_first w m a b₁ s₁ busy = record {
@@ -99,7 +91,6 @@ goes_first w m a b₁ s₁ busy = record {
   sum = omega arith;
   only = record { slots = λ i _. refl; rounds = λ i _. refl; stays = λ h. h };
   kinds = [];
-  came = λ i l. absurd (let z : ⊥ = omega arith in z);
   long = refl;
   made = calls_as refl refl (sym (decide_none m b₁)) none;
 }
@@ -107,25 +98,24 @@ goes_first w m a b₁ s₁ busy = record {
 module _ {S : Type 0} (w : Ways S) (rule : AirRule w) (sure : Sure w) (m : Map) (a : ℕ) (in_a : a < nodes m) (b₁ : Board) (s₁ : S) (b : Board) (s : S) (count : ℕ) (g : Going w m a b₁ s₁ b s count) where
   -- the next call, by what the radio hands out
   next : (o : Option Message) → w.taken s ≡ o
-      → Calls w m b₁ s₁ (replicate (length g.kinds) Deliver ++ (Deliver ∷ [])) (map (λ kind. Delivered (Ok kind)) g.kinds ++ (Delivered (delivered m b o).answer ∷ []))
+      → Calls w m b₁ s₁ (replicate (length g.kinds) Deliver ++ (Deliver ∷ [])) (map (λ kind. Delivered (Ok (Some kind))) g.kinds ++ (Delivered (delivered m b o).answer ∷ []))
       (deciders m b₁ b ++ deciders m b (delivered m b o).board) (delivered m b o).board (puts w (w.after_take s) (delivered m b o).sent)
-  next o e = subst (λ (o : Option Message). Calls w m b₁ s₁ (replicate (length g.kinds) Deliver ++ (Deliver ∷ [])) (map (λ kind. Delivered (Ok kind)) g.kinds ++ (Delivered (delivered m b o).answer ∷ []))
+  next o e = subst (λ (o : Option Message). Calls w m b₁ s₁ (replicate (length g.kinds) Deliver ++ (Deliver ∷ [])) (map (λ kind. Delivered (Ok (Some kind))) g.kinds ++ (Delivered (delivered m b o).answer ∷ []))
       (deciders m b₁ b ++ deciders m b (delivered m b o).board) (delivered m b o).board (puts w (w.after_take s) (delivered m b o).sent)) e (more g.made Deliver)
 
   goes_on : (x : Message) → w.taken s ≡ Some x → Going w m a b₁ s₁ (received m b x).board (puts w (w.after_take s) (received m b x).sent) (count + 1)
   goes_on x e =
       let step = went w rule sure m a (at b₁ a).round b s g.busy x e in
-      let (kind, high, answer) = step.came in
+      let (kind, answer) = step.came in
       record {
         busy = busy_on w rule sure m a (at b₁ a).round b s g.busy x e;
         sum = let h = g.sum in let l = step.less in omega arith;
         only = only_then a b₁ b (received m b x).board g.only step.only;
         kinds = g.kinds ++ (kind ∷ []);
-        came = all_push g.kinds kind g.came high;
         long = let h = g.long in let l = length_push g.kinds kind in omega arith;
         made = calls_as
             (replicate_more (length g.kinds) Deliver ∙ ap (λ (n : ℕ). replicate n Deliver) (sym (length_push g.kinds kind)))
-            (ap (λ (r : Result ℕ Refusal). map (λ kind. Delivered (Ok kind)) g.kinds ++ (Delivered r ∷ [])) answer ∙ sym (map_push (λ kind. Delivered (Ok kind)) g.kinds kind))
+            (ap (λ (r : Result (Option Kind) Refusal). map (λ kind. Delivered (Ok (Some kind))) g.kinds ++ (Delivered r ∷ [])) answer ∙ sym (map_push (λ kind. Delivered (Ok (Some kind))) g.kinds kind))
             (decide_then m a in_a b₁ b (received m b x).board g.only step.only) (next (Some x) e);
       }
 
@@ -138,7 +128,6 @@ module _ {S : Type 0} (w : Ways S) (rule : AirRule w) (sure : Sure w) (m : Map) 
       record {
         won = d.won;
         kinds = g.kinds;
-        came = g.came;
         long = g.long;
         made = calls_as refl refl
             (ap (λ (o : List ℕ). deciders m b₀ b₁ ++ o) (ap (λ (o : List ℕ). deciders m b₁ b ++ o) (decide_none m b) ∙ append-nil (deciders m b₁ b))
@@ -153,7 +142,7 @@ module _ {S : Type 0} (w : Ways S) (rule : AirRule w) (sure : Sure w) (m : Map) 
 
   -- as the loop sees it: a delivery answers r, and leads to b' and s'
 
-  module _ (m' : Map) (same : m' ≡ m) (r : Result ℕ Refusal) (b' : Board) (s' : S) (er : r ≡ (delivered m' b (w.taken s)).answer) (eb : b' ≡ (delivered m' b (w.taken s)).board) (es : s' ≡ puts w (w.after_take s) (delivered m' b (w.taken s)).sent) where
+  module _ (m' : Map) (same : m' ≡ m) (r : Result (Option Kind) Refusal) (b' : Board) (s' : S) (er : r ≡ (delivered m' b (w.taken s)).answer) (eb : b' ≡ (delivered m' b (w.taken s)).board) (es : s' ≡ puts w (w.after_take s) (delivered m' b (w.taken s)).sent) where
     board_is : (o : Option Message) → w.taken s ≡ o → b' ≡ (delivered m b o).board
     board_is o e = eb ∙ ap (λ (x : Map). (delivered x b (w.taken s)).board) same ∙ ap (λ (o : Option Message). (delivered m b o).board) e
 
@@ -163,7 +152,7 @@ module _ {S : Type 0} (w : Ways S) (rule : AirRule w) (sure : Sure w) (m : Map) 
     answer_is : (o : Option Message) → w.taken s ≡ o → r ≡ (delivered m b o).answer
     answer_is o e = er ∙ ap (λ (x : Map). (delivered x b (w.taken s)).answer) same ∙ ap (λ (o : Option Message). (delivered m b o).answer) e
 
-    pub on : (r ≡ Ok 0 → ⊥) → Going w m a b₁ s₁ b' s' (count + 1)
+    pub on : (r ≡ Ok None → ⊥) → Going w m a b₁ s₁ b' s' (count + 1)
     on some = by (w.taken s) refl
       where
         by : (o : Option Message) → w.taken s ≡ o → Going w m a b₁ s₁ b' s' (count + 1)
@@ -172,7 +161,7 @@ module _ {S : Type 0} (w : Ways S) (rule : AirRule w) (sure : Sure w) (m : Map) 
             subst (λ (c : Board). Going w m a b₁ s₁ c s' (count + 1)) (sym (board_is (Some x) e))
             (subst (λ (t : S). Going w m a b₁ s₁ (received m b x).board t (count + 1)) (sym (state_is (Some x) e)) (goes_on x e))
 
-    pub off : (b₀ : Board) (s₀ : S) → ((k : ℕ) → Rests (at b₀ k)) → (at b₀ a).slot ≡ 0 → Drew w m a b₀ s₀ b₁ s₁ → r ≡ Ok 0 → Settling w m a b₀ b' s₀ s' count
+    pub off : (b₀ : Board) (s₀ : S) → ((k : ℕ) → Rests (at b₀ k)) → (at b₀ a).slot ≡ 0 → Drew w m a b₀ s₀ b₁ s₁ → r ≡ Ok None → Settling w m a b₀ b' s₀ s' count
     off b₀ s₀ rests open-a d nothing = by (w.taken s) refl
       where
         by : (o : Option Message) → w.taken s ≡ o → Settling w m a b₀ b' s₀ s' count
@@ -180,7 +169,6 @@ module _ {S : Type 0} (w : Ways S) (rule : AirRule w) (sure : Sure w) (m : Map) 
             subst (λ (c : Board). Settling w m a b₀ c s₀ s' count) (sym (board_is None e))
             (subst (λ (t : S). Settling w m a b₀ b s₀ t count) (sym (state_is None e)) (ends b₀ s₀ rests open-a d e))
         by (Some x) e = absurd (
-            let (kind, high, answer) = (went w rule sure m a (at b₁ a).round b s g.busy x e).came in
-            let q : ◌≡◌ {A = Result ℕ Refusal} (Ok kind) (Ok 0) = sym answer ∙ sym (answer_is (Some x) e) ∙ nothing in
-            let z : kind ≡ 0 = cc in
-            let u : ⊥ = omega arith in u)
+            let (kind, answer) = (went w rule sure m a (at b₁ a).round b s g.busy x e).came in
+            let q : ◌≡◌ {A = Result (Option Kind) Refusal} (Ok (Some kind)) (Ok None) = sym answer ∙ sym (answer_is (Some x) e) ∙ nothing in
+            let u : ⊥ = cc in u)

@@ -1,5 +1,5 @@
 -- The third delivery about a neighbour: the grant comes, and is marked; the last of them decides.
-use Rattle.std.proofs.Common.{◌≡◌, ℕ, suc, ◌+◌, ◌<◌, Bool, true, false, cond, not, ◌||◌, eqb, ltb, ◌⊎◌, List, [], length, sym, refl, ap, ◌∙◌, subst, inl, inr, ⊎_elim, arith}
+use Rattle.std.proofs.Common.{◌≡◌, ℕ, suc, ◌+◌, ◌<◌, Bool, true, false, cond, not, ◌||◌, eqb, ltb, ◌⊎◌, List, [], length, Option, sym, refl, ap, ◌∙◌, subst, inl, inr, ⊎_elim, arith}
 use mathlib.Core.List.Memᴰ
 use Rattle.std.proofs.lemmas.List.{length-set}
 use Rattle.std.proofs.lemmas.Bool.{both_ways, cases_Bool, cases_eq, and_from, and_parts, not-true, not-false, eq-eqb, ne_eqb, lt-ltb, cond_both, cond-true, cond-false}
@@ -12,6 +12,8 @@ use Rattle.map.specs.View.{linked, nodes}
 use Rattle.map.specs.declared.Map.{Map}
 use Rattle.schedule.proofs.Slots.{some_find, some_at}
 use Rattle.radio.specs.Ways.{In}
+use Rattle.radio.specs.declared.kind.Kind.{Kind}
+use Rattle.radio.specs.declared.kind.Kind.TheVariants.{Grant as GrantKind}
 use Rattle.radio.specs.declared.message.Message.{Message}
 use Rattle.rig.specs.declared.node.Node.{Node}
 use Rattle.rig.specs.declared.node.Phase.TheVariants.{Request}
@@ -69,7 +71,7 @@ module _ (m : Map) (a r : ℕ) (b : Board) (long : length b ≡ 64) (k : ℕ) (l
   now_g : is_grant (at marking k).phase ≡ true
   now_g = ap (λ (v : Node). is_grant v.phase) (at_i k far) ∙ g
 
-  received-grant : received m b (grant s r k a) ≡ cond (complete m marking a) (sends m (settled m marking a) (settled_sent m marking a) 2) (sends m marking [] 2)
+  received-grant : received m b (grant s r k a) ≡ cond (complete m marking a) (sends m (settled m marking a) (settled_sent m marking a) GrantKind) (sends m marking [] GrantKind)
   received-grant =
       cond-false (foreign m (grant s r k a)) _ _ (ap (λ (v : Bool). not v || false) (m.both k a ∙ link))
       ∙ cond-true (waits (at b a) r) _ _ (and_from (is_request (at b a).phase) (eqb r (at b a).round) (ap is_request q) (eq-eqb r (at b a).round (sym ep.round)))
@@ -100,13 +102,13 @@ module _ (m : Map) (a r : ℕ) (b : Board) (long : length b ≡ 64) (k : ℕ) (l
         omega arith;
   }
 
-  grant_counts : complete m marking a ≡ false → Went m a r b ys (sends m marking [] 2)
+  grant_counts : complete m marking a ≡ false → Went m a r b ys (sends m marking [] GrantKind)
   grant_counts c = record {
     episode = moves m a r (at b) (at marking) k link (grant s r k a) xs ys [] out ep refl (counted_moved c);
     less = works m a r (at b) (at marking) k link (grant s r k a) xs ys [] out ep refl (counted_moved c);
     only = only_put a b a (counted (at b a) k s) in_a refl refl;
     few = omega arith;
-    came = (2, omega arith, refl);
+    came = (GrantKind, refl);
   }
 
   -- all neighbours are marked
@@ -212,19 +214,19 @@ module _ (m : Map) (a r : ℕ) (b : Board) (long : length b ≡ 64) (k : ℕ) (l
           let y = cost_is (at b a) i (at b i) true true (is_grant (at b i).phase) (ap is_request q) (sym (now_i i l d) ∙ all i l) refl in
           omega arith)
 
-      grant_settles : Went m a r b ys (sends m (settled m marking a) (settled_sent m marking a) 2)
+      grant_settles : Went m a r b ys (sends m (settled m marking a) (settled_sent m marking a) GrantKind)
       grant_settles =
-          subst (λ (d : Board). Went m a r b ys (sends m d (settled_sent m marking a) 2)) (sym (cond-true (ltb (lowest (at marking a).taken) 64) chosen (gave_up m marking a) fits))
-          (subst (λ (sent : List Message). Went m a r b ys (sends m chosen sent 2)) (sym (cond-true (ltb (lowest (at marking a).taken) 64) telling (fail_all m marking a) fits)) (record {
+          subst (λ (d : Board). Went m a r b ys (sends m d (settled_sent m marking a) GrantKind)) (sym (cond-true (ltb (lowest (at marking a).taken) 64) chosen (gave_up m marking a) fits))
+          (subst (λ (sent : List Message). Went m a r b ys (sends m chosen sent GrantKind)) (sym (cond-true (ltb (lowest (at marking a).taken) 64) telling (fail_all m marking a) fits)) (record {
             episode = ended;
             less = lesser;
             only = record { slots = λ i d. ap (λ (v : Node). v.slot) (end_i i d); rounds = λ i d. ap (λ (v : Node). v.round) (end_i i d); stays = λ _. end_slot };
             few = let l = each_most (linked m a) (release (slot_for m marking a) (at marking a).round a) (nodes m) in let s = m.most in omega arith;
-            came = (2, omega arith, refl);
+            came = (GrantKind, refl);
           }))
         where
           fits : ltb (lowest (at marking a).taken) 64 ≡ true
           fits = lt-ltb (lowest (at marking a).taken) 64 free
 
   pub grant_comes : lowest (at marking a).taken < 64 → Went m a r b ys (received m b (grant s r k a))
-  grant_comes free = subst (λ (o : After ℕ). Went m a r b ys o) (sym received-grant) (cond_both (complete m marking a) _ _ (Went m a r b ys) (λ c. grant_settles c free) grant_counts)
+  grant_comes free = subst (λ (o : After (Option Kind)). Went m a r b ys o) (sym received-grant) (cond_both (complete m marking a) _ _ (Went m a r b ys) (λ c. grant_settles c free) grant_counts)

@@ -11,3 +11,4 @@ pub mod Going
 pub mod Settled
 pub mod Queue
 pub mod Driven
+pub mod Whole

@@ -45,7 +45,7 @@ pub settled_more : {S : Type 0} (w : Ways S) (m : Map) (order : List ℕ) (a : �
 settled_more w m order a b b' s s' count n in_a open-a h k = record {
   calls = h.calls ++ episode_calls a k.kinds;
   answers = h.answers ++ episode_answers k.won k.kinds;
-  drives = subst (λ (x : ℕ). Drives (order ++ (a ∷ [])) (h.calls ++ episode_calls a k.kinds) (h.answers ++ episode_answers k.won k.kinds) (count + x)) k.long (Drives.more h.drives a k.won k.kinds k.came);
+  drives = subst (λ (x : ℕ). Drives (order ++ (a ∷ [])) (h.calls ++ episode_calls a k.kinds) (h.answers ++ episode_answers k.won k.kinds) (count + x)) k.long (Drives.more h.drives a k.won k.kinds);
   run = record { start = h.run.start; empty = h.run.empty; made = calls_then h.run.made k.made };
   rests = k.rests;
   empty = k.empty;

@@ -1,11 +1,12 @@
 -- The drive: each node of an order in turn is drawn with the number 1, and then messages are delivered until nothing comes.
-use Rattle.std.specs.Prelude.{◌≡◌, ℕ, ◌+◌, ◌*◌, ◌<◌, ◌≤◌, List, [], ◌∷◌, ◌++◌, map, length, replicate, Ok, Err, Result, slice_index}
+use Rattle.std.specs.Prelude.{◌≡◌, ℕ, ◌+◌, ◌*◌, ◌<◌, ◌≤◌, List, [], ◌∷◌, ◌++◌, map, length, replicate, Some, None, Ok, Err, Result, slice_index}
 use Rattle.refusal.specs.Entry.{entry, Why}
 use Rattle.refusal.specs.declared.Refusal.{Refusal}
 use Rattle.map.specs.View.{nodes, contend, link_count}
 use Rattle.map.specs.declared.Map.{Map}
 use Rattle.schedule.specs.Rand.{rand, Fine, Named}
 use Rattle.schedule.specs.Order.{Disordered}
+use Rattle.radio.specs.declared.kind.Kind.{Kind}
 use Rattle.radio.specs.Queue.{queue_ways}
 use Rattle.rig.specs.declared.Lottery.{Lottery}
 use Rattle.rig.specs.declared.node.Phase.TheVariants.{Release}
@@ -21,18 +22,18 @@ use Rattle.law.specs.Law.{SlotLaw}
 -- what a drive does
 
 -- node a is drawn with 1, and then one message after another is delivered, until nothing comes
-abbrev pub episode_calls : ℕ → List ℕ → List Call
+abbrev pub episode_calls : ℕ → List Kind → List Call
 episode_calls a kinds = Draw a 1 ∷ (replicate (length kinds) Deliver ++ (Deliver ∷ []))
 
--- the draw's answer, the kinds of the messages that came, and 0 for nothing
-abbrev pub episode_answers : Result Lottery Refusal → List ℕ → List Answer
-episode_answers won kinds = Drawn won ∷ (map (λ kind. Delivered (Ok kind)) kinds ++ (Delivered (Ok 0) ∷ []))
+-- the draw's answer, the kinds of the messages that came, and then nothing
+abbrev pub episode_answers : Result Lottery Refusal → List Kind → List Answer
+episode_answers won kinds = Drawn won ∷ (map (λ kind. Delivered (Ok (Some kind))) kinds ++ (Delivered (Ok None) ∷ []))
 
 -- the calls and answers of a drive in this order, in which so many deliveries brought a message
 pub data Drives : List ℕ → List Call → List Answer → ℕ → Type 0 where
   none : Drives [] [] [] 0
   more : {order : List ℕ} {calls : List Call} {answers : List Answer} {count : ℕ} → Drives order calls answers count
-      → (a : ℕ) (won : Result Lottery Refusal) (kinds : List ℕ) → ((i : ℕ) → i < length kinds → 0 < slice_index kinds i)
+      → (a : ℕ) (won : Result Lottery Refusal) (kinds : List Kind)
       → Drives (order ++ (a ∷ [])) (calls ++ episode_calls a kinds) (answers ++ episode_answers won kinds) (count + length kinds)
 
 -- what a drive comes to

@@ -1,9 +1,10 @@
 -- What the drive's inner functions keep: the rig between two draws, one node settled, and the nodes settled so far.
-use Rattle.std.specs.Prelude.{◌≡◌, ℕ, ◌*◌, ◌<◌, cond, ◌⊎◌, List, [], ◌∷◌, length, Result, ◌==◌, ◌≢◌, slice_index}
+use Rattle.std.specs.Prelude.{◌≡◌, ℕ, ◌*◌, ◌<◌, cond, ◌⊎◌, List, [], ◌∷◌, length, Result, ◌==◌, ◌≢◌}
 use Rattle.marks.specs.Below.{sum_below}
 use Rattle.refusal.specs.declared.Refusal.{Refusal}
 use Rattle.map.specs.View.{nodes, degree}
 use Rattle.map.specs.declared.Map.{Map}
+use Rattle.radio.specs.declared.kind.Kind.{Kind}
 use Rattle.radio.specs.Ways.{Ways}
 use Rattle.rig.specs.declared.Lottery.{Lottery}
 use Rattle.rig.specs.declared.node.Node.{Node}
@@ -31,8 +32,7 @@ pub record Resting {S : Type 0} (w : Ways S) (m : Map) (b : Board) (s : S) : Typ
 -- node a is settled, from nodes b and radio state s to b' and s': it is drawn with 1, and messages are delivered until nothing comes; so many came
 pub record Settling {S : Type 0} (w : Ways S) (m : Map) (a : ℕ) (b b' : Board) (s s' : S) (count : ℕ) : Type 0 where
   pub won : Result Lottery Refusal
-  pub kinds : List ℕ
-  pub came : (i : ℕ) → i < length kinds → 0 < slice_index kinds i
+  pub kinds : List Kind
   pub long : length kinds ≡ count
   -- a decides in these calls, and no other node does
   pub made : Calls w m b s (episode_calls a kinds) (episode_answers won kinds) (a ∷ []) b' s'

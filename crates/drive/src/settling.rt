@@ -1,5 +1,5 @@
 //! Settling nodes one after the other, over any radio that is sure.
-ghost use Rattle.std.specs.Prelude.{◌≡◌, ◌<◌, [], Ok, Decides};
+ghost use Rattle.std.specs.Prelude.{◌≡◌, ◌<◌, []};
 ghost use Rattle.map.specs.View.{nodes};
 ghost use Rattle.rig.specs.Board.{new_board};
 ghost use Rattle.rig.specs.Calm.{at};
@@ -9,18 +9,7 @@ ghost use Rattle.drive.specs.Settling.{Resting, Settled, Settling};
 ghost use Rattle.drive.specs.Sure.{Sure};
 
 use radio::Radio;
-use refusal::Refusal;
 use rig::Rig;
-
-// Whether a delivery brought nothing.
-fn is_nothing(answer: Result<u8, Refusal>) -> bool
-    ensures { Decides result (answer ≡ Ok 0) }
-{
-    match answer {
-        Ok(kind) => kind == 0,
-        Err(_) => false,
-    }
-}
 
 // Draws node `a` with 1, and then delivers until nothing comes; how many messages came.
 fn settle<R: Radio>(rig: &mut Rig, radio: &mut R, a: u8) -> u32
@@ -33,7 +22,7 @@ fn settle<R: Radio>(rig: &mut Rig, radio: &mut R, a: u8) -> u32
 {
     let _ = rig.draw(a, 1, radio);
     let mut came = 0;
-    while !is_nothing(rig.deliver(radio)) {
+    while !matches!(rig.deliver(radio), Ok(None)) {
         came += 1;
     }
     came

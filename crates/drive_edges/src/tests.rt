@@ -1,14 +1,12 @@
 use drive::drive;
 use map::Map;
 use refusal::Refusal;
+use std::array;
 use std::test::Fail;
 
-// What a drive answers, and the number of its refusal, or 0.
-fn told(answer: Result<u32, Refusal>) -> (u32, u8) {
-    match answer {
-        Ok(deliveries) => (deliveries, 0),
-        Err(refusal) => (0, refusal.number()),
-    }
+// What a drive answers, with a refusal by its number.
+fn told(map: &Map, order: &[u8], slots: &mut [u16]) -> Result<u32, u8> {
+    drive(map, order, slots).map_err(Refusal::number)
 }
 
 // So many nodes without a link.
@@ -56,7 +54,7 @@ fn orders_on_a_path(rt: HostRuntime) {
         ([1, 2, 0, 3], [3, 1, 2, 3]),
     ] {
         let mut table = [9u16; 4];
-        assert_eq!(rt; told(drive(&path(4), &order, &mut table)), (18, 0));
+        assert_eq!(rt; told(&path(4), &order, &mut table), Ok(18));
         assert_eq!(rt; table, slots);
     }
 }
@@ -65,28 +63,25 @@ fn orders_on_a_path(rt: HostRuntime) {
 fn other_maps(rt: HostRuntime) {
     let mut table = [9u16; 7];
     assert_eq!(rt;
-        told(drive(&star(5), &[4, 0, 2, 1, 3], &mut table)),
-        (24, 0)
+        told(&star(5), &[4, 0, 2, 1, 3], &mut table),
+        Ok(24)
     );
     assert_eq!(rt; table, [2, 4, 3, 5, 1, 9, 9]);
     assert_eq!(rt;
-        told(drive(&lone(6), &[5, 3, 1, 0, 2, 4], &mut table)),
-        (0, 0)
+        told(&lone(6), &[5, 3, 1, 0, 2, 4], &mut table),
+        Ok(0)
     );
     assert_eq!(rt; table, [1, 1, 1, 1, 1, 1, 9]);
     let mut one = [9u16; 2];
-    assert_eq!(rt; told(drive(&Map::new(), &[0], &mut one)), (0, 0));
+    assert_eq!(rt; told(&Map::new(), &[0], &mut one), Ok(0));
     assert_eq!(rt; one, [1, 9]);
 }
 
 #[test]
 fn all_of_64_linked(rt: HostRuntime) -> Result<(), Fail> {
-    let mut order = [0u8; 64];
-    for i in 0..64u8 {
-        order[i as usize] = 63 - i;
-    }
+    let order: [u8; 64] = array::from_fn(|i| 63 - i as u8);
     let mut table = [0u16; 64];
-    assert_eq!(rt; told(drive(&full(), &order, &mut table)), (12_096, 0));
+    assert_eq!(rt; told(&full(), &order, &mut table), Ok(12_096));
     assert_eq!(rt; (table[63], table[62], table[1], table[0]), (1, 2, 63, 64));
     Ok(())
 }
@@ -95,12 +90,12 @@ fn all_of_64_linked(rt: HostRuntime) -> Result<(), Fail> {
 fn refused_drives(rt: HostRuntime) {
     let map = path(3);
     let mut short = [9u16; 2];
-    assert_eq!(rt; told(drive(&map, &[0, 1, 2], &mut short)), (0, 1));
-    assert_eq!(rt; told(drive(&map, &[7, 7], &mut short)), (0, 1));
+    assert_eq!(rt; told(&map, &[0, 1, 2], &mut short), Err(1));
+    assert_eq!(rt; told(&map, &[7, 7], &mut short), Err(1));
     assert_eq!(rt; short, [9, 9]);
     let mut table = [9u16; 4];
-    assert_eq!(rt; told(drive(&map, &[], &mut table)), (0, 6));
-    assert_eq!(rt; told(drive(&map, &[2, 0], &mut table)), (0, 6));
+    assert_eq!(rt; told(&map, &[], &mut table), Err(6));
+    assert_eq!(rt; told(&map, &[2, 0], &mut table), Err(6));
     assert_eq!(rt; table, [9, 9, 9, 9]);
     for (order, number) in [
         ([0u8, 1, 1, 2], 5u8),
@@ -111,7 +106,7 @@ fn refused_drives(rt: HostRuntime) {
         ([2, 1, 0, 2], 5),
     ] {
         let mut table = [9u16; 3];
-        assert_eq!(rt; told(drive(&map, &order, &mut table)), (0, number));
+        assert_eq!(rt; told(&map, &order, &mut table), Err(number));
         assert_eq!(rt; table, [9, 9, 9]);
     }
 }

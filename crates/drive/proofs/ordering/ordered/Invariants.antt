@@ -1,5 +1,0 @@
-use Rattle.schedule.specs.Rand.{FineTo}
-use Rattle.drive.proofs.ordering.ordered.Given as goal
-
-abbrev pub invariant-loop-i : goal.invariant-loop-i
-invariant-loop-i l = FineTo l.count l.order l.i
