@@ -1,5 +1,5 @@
 -- The end of a job: what its nodes can hold, its largest slot, and what is answered.
-use Rattle.std.proofs.Common.{◌≡◌, ℕ, zero, suc, ◌<◌, ◌≤◌, max, fold, List, [], ◌∷◌, length, get_or, Some, None, Ok, Err, Option, Result, MatchResult, sym, refl, ap, ◌∙◌, subst, ap₂, inl, inr, ⊎_elim, take_all, arith}
+use Rattle.std.proofs.Common.{◌≡◌, ℕ, zero, suc, ◌<◌, ◌≤◌, max, fold, List, [], ◌∷◌, length, get_or, Some, None, Ok, Err, Option, Result, MatchResult, sym, refl, ap, ◌∙◌, ap₂, inl, inr, ⊎_elim, take_all, arith}
 use Rattle.std.proofs.lemmas.Bool.{cases_lt}
 use Rattle.std.specs.List.{reduce}
 use Rattle.std.specs.Option.{unwrap_or}
@@ -18,13 +18,15 @@ use Rattle.radio.specs.Coin.{CoinState, coin_ways, seeded}
 use Rattle.radio.specs.Queue.{queue_ways}
 use Rattle.radio.specs.Ways.{Ways, AirRule}
 use Rattle.radio.specs.declared.message.Message.{Message}
-use Rattle.rig.specs.Board.{Board}
 use Rattle.law.proofs.Law.{holds, turn_few}
 use Rattle.script.specs.Script.{good, described, seed_of, events}
-use Rattle.script.specs.declared.Event.{Event}
 use Rattle.job.specs.Play.{Stand, fresh, plays, PlaysOut}
 use Rattle.job.specs.Listing.{Lists, Printed, coin, listing, listed_over, listed, PlaysOutOver, JobRuns}
-use Rattle.job.proofs.Rooms.{Short}
+use Rattle.job.specs.declared.playing.Play.{Play}
+use Rattle.job.specs.Stands.{stand, shown}
+use Rattle.job.proofs.Counts.{events_few}
+use Rattle.job.proofs.Trails.{settles}
+use Rattle.job.proofs.Rooms.{Short, listing_short}
 
 -- the largest of a table
 
@@ -53,31 +55,47 @@ pub printed : (job : List ℕ) (r : Result Text Refusal) (text : Text) → Lists
 printed job (Ok t) text (m, runs, is) same = inl (m, runs, ap written same ∙ is)
 printed job (Err e) text why is = inr (e, why, is ∙ take_all 1024 (refused_line e) (refused_short e (unfit_index (good job) job e why)))
 
--- in the end of a run no number of a node is too long for a listing
-pub short_end : {S : Type 0} (w : Ways S) → AirRule w → (m : Map) (es : List Event) (t : Stand S) → PlaysOut w m es t → (m' : Map) (b : Board) → m' ≡ m → b ≡ t.nodes → (k : ℕ) → k < nodes m' → Short b k
-short_end w rule m es t s m' b em eb k l =
-    let i = holds w rule m s.run.empty s.run.made in
-    let inside = subst (λ (x : Map). k < nodes x) em l in
-    subst (λ (x : Board). Short x k) (sym eb) (record { slot = i.fine.nodes.small k; turn = turn_few w rule m s.order t.nodes t.radio i k inside; round = i.fine.nodes.few k })
+-- the end of a job, whose listing has space in a text
+
+module _ {S : Type 0} (w : Ways S) (rule : AirRule w) (m : Map) (job : List ℕ) (s₀ : S) (empty : w.air s₀ ≡ []) where
+  abbrev pub end : Stand S
+  end = plays w m (events job) (fresh s₀)
+
+  pub plays_out : PlaysOut w m (events job) end
+  plays_out = settles w m s₀ rule empty (events job)
+
+  end_short : (k : ℕ) → k < nodes m → Short end.nodes k
+  end_short k l =
+      let i = holds w rule m plays_out.run.empty plays_out.run.made in
+      record { slot = i.fine.nodes.small k; turn = turn_few w rule m plays_out.order end.nodes end.radio i k l; round = i.fine.nodes.few k }
+
+  module _ (p : Play) (s : S) (map : p.rig.map ≡ m) (after : stand p s ≡ end) where
+    pub lists : listing p.rig.map (shown p) ≡ listing m end
+    lists = ap (λ (x : Map). listing x (shown p)) map ∙ ap (λ (t : Stand S). listing m t) after
+
+    pub list_short : records job ≤ 4096 → length (listing p.rig.map (shown p)) ≤ 1024
+    list_short few =
+        let counts = events_few w m job s₀ (records job) in
+        let short = listing_short m end end_short (omega arith) in
+        let e = ap length lists in
+        omega arith
 
 -- over which radio
 
 module _ (m : Map) (job : List ℕ) (text : List ℕ) (fits : length_rule (length job) ≡ Ok tt) (all : AllFit (good job) (records job)) (says : net m ≡ described job) where
   over : (o : Option ℕ) → o ≡ seed_of job → PlaysOutOver m job o → text ≡ listed_over m job o → JobRuns job m × (text ≡ listed m job)
   over o e law is =
-      (record { fits = fits; good = all; map = says; law = subst (λ (x : Option ℕ). PlaysOutOver m job x) e law }, is ∙ ap (listed_over m job) e)
+      (record { fits = fits; good = all; map = says; law = rw e at law }, rw e at is)
 
   pub over_queue : (o : Option ℕ) (s : List Message) → o ≡ seed_of job → o ≡ None → s ≡ [] → PlaysOut queue_ways m (events job) (plays queue_ways m (events job) (fresh s)) → text ≡ listing m (plays queue_ways m (events job) (fresh s))
       → (m : Map) × JobRuns job m × (text ≡ listed m job)
   over_queue o s e n d law is =
-      let (runs, same) = over None (sym n ∙ e) (subst (λ (x : List Message). PlaysOut queue_ways m (events job) (plays queue_ways m (events job) (fresh x))) d law)
-      (is ∙ ap (λ (x : List Message). listing m (plays queue_ways m (events job) (fresh x))) d) in
+      let (runs, same) = over None (sym n ∙ e) (rw d at law) (rw d at is) in
       (m, runs, same)
 
   pub over_coin : (o : Option ℕ) (seed : ℕ) (s : CoinState) → o ≡ seed_of job → o ≡ Some seed → s.value ≡ seeded seed → s.waits ≡ [] → PlaysOut coin_ways m (events job) (plays coin_ways m (events job) (fresh s)) → text ≡ listing m (plays coin_ways m (events job) (fresh s))
       → (m : Map) × JobRuns job m × (text ≡ listed m job)
   over_coin o seed s e n v a law is =
       let d : s ≡ coin seed = ap₂ (λ (x : ℕ) (y : List Message). record { value = x; waits = y }) v a in
-      let (runs, same) = over (Some seed) (sym n ∙ e) (subst (λ (x : CoinState). PlaysOut coin_ways m (events job) (plays coin_ways m (events job) (fresh x))) d law)
-      (is ∙ ap (λ (x : CoinState). listing m (plays coin_ways m (events job) (fresh x))) d) in
+      let (runs, same) = over (Some seed) (sym n ∙ e) (rw d at law) (rw d at is) in
       (m, runs, same)

@@ -1,5 +1,5 @@
 -- The events of a job make a run.
-use Rattle.std.proofs.Common.{◌≡◌, ℕ, zero, suc, ◌+◌, ◌<◌, Bool, true, false, cond, ◌⊎◌, List, [], ◌∷◌, ◌++◌, map, length, get_or, replicate, None, Ok, Option, Result, sym, refl, ap, subst, inl, inr, append_assoc, append-nil, arith}
+use Rattle.std.proofs.Common.{◌≡◌, ℕ, zero, suc, ◌+◌, ◌<◌, Bool, true, false, ◌⊎◌, List, [], ◌∷◌, ◌++◌, map, length, get_or, replicate, None, Ok, Option, Result, refl, ap, inl, inr, append_assoc, append-nil, arith}
 use Rattle.refusal.specs.declared.Refusal.{Refusal}
 use Rattle.map.specs.declared.Map.{Map}
 use Rattle.radio.specs.declared.kind.Kind.{Kind}
@@ -55,8 +55,8 @@ module _ {S : Type 0} (w : Ways S) (m : Map) (s₀ : S) where
   none_delivered calls answers order t l = record {
     results = [];
     order = order;
-    fits = record { most = omega arith; before = λ i h. absurd (let z : ⊥ = omega arith in z); last = inl refl };
-    led = subst (λ (x : List Call). Led x (answers ++ []) order t) (sym (append-nil calls)) (subst (λ (x : List Answer). Led calls x order t) (sym (append-nil answers)) l);
+    fits = record { most = omega arith; before = λ i h. absurd (omega arith); last = inl refl };
+    led = simp append-nil l;
   }
 
   last_delivered : (n : ℕ) (calls : List Call) (answers : List Answer) (order : List ℕ) (t : Stand S) → Led calls answers order t → nothing (answered w m t Deliver) ≡ true → Delivered_on (suc n) calls answers t
@@ -66,8 +66,8 @@ module _ {S : Type 0} (w : Ways S) (m : Map) (s₀ : S) where
       record {
         results = result t ∷ [];
         order = order';
-        fits = record { most = omega arith; before = λ i h. absurd (let z : ⊥ = omega arith in z); last = inr (0, refl, e) };
-        led = subst (λ (b : Bool). Led (calls ++ (Deliver ∷ [])) (answers ++ (answered w m t Deliver ∷ [])) order' (cond b (called w m t Deliver) (up_to w m n (called w m t Deliver)))) (sym e) led;
+        fits = record { most = omega arith; before = λ i h. absurd (omega arith); last = inr (0, refl, e) };
+        led = rw e led;
       }
 
   more_delivered : (n : ℕ) (calls : List Call) (answers : List Answer) (t : Stand S) → nothing (answered w m t Deliver) ≡ false
@@ -77,10 +77,7 @@ module _ {S : Type 0} (w : Ways S) (m : Map) (s₀ : S) where
     results = result t ∷ d.results;
     order = d.order;
     fits = record { most = (let h = d.fits.most in omega arith); before = before; last = last d.fits.last };
-    led =
-        subst (λ (b : Bool). Led (calls ++ (Deliver ∷ replicate (length d.results) Deliver)) (answers ++ (Delivered (result t) ∷ map Delivered d.results)) d.order (cond b (called w m t Deliver) (up_to w m n (called w m t Deliver)))) (sym e)
-        (subst (λ (x : List Call). Led x (answers ++ (Delivered (result t) ∷ map Delivered d.results)) d.order (up_to w m n (called w m t Deliver))) (append_assoc calls (Deliver ∷ []) (replicate (length d.results) Deliver))
-        (subst (λ (x : List Answer). Led ((calls ++ (Deliver ∷ [])) ++ replicate (length d.results) Deliver) x d.order (up_to w m n (called w m t Deliver))) (append_assoc answers (Delivered (result t) ∷ []) (map Delivered d.results)) d.led));
+    led = rw e (simp append_assoc at d.led);
   }
     where
       before : (i : ℕ) → suc i < length (result t ∷ d.results) → nothing (Delivered (get_or (result t ∷ d.results) i (Ok None))) ≡ false
@@ -123,9 +120,9 @@ module _ {S : Type 0} (w : Ways S) (m : Map) (s₀ : S) where
       record { calls = _; answers = _; order = order; plays = nudges l.plays k (nudged m t.nodes k).answer; led = led }
 
   trail_on : (es done : List Event) (t : Stand S) → Trail done t → Trail (done ++ es) (plays w m es t)
-  trail_on [] done t l = subst (λ (x : List Event). Trail x t) (sym (append-nil done)) l
+  trail_on [] done t l = rw append-nil l
   trail_on (e ∷ es) done t l =
-      subst (λ (x : List Event). Trail x (plays w m es (played w m e t))) (append_assoc done (e ∷ []) es) (trail_on es (done ++ (e ∷ [])) (played w m e t) (trail_more done t l e))
+      rw append_assoc at (trail_on es (done ++ (e ∷ [])) (played w m e t) (trail_more done t l e))
 
   -- from a new rig, over a radio with nothing in its air
   pub settles : AirRule w → w.air s₀ ≡ [] → (es : List Event) → PlaysOut w m es (plays w m es (fresh s₀))

@@ -1,10 +1,10 @@
 //! Playing the events of a job on a rig.
-ghost use Rattle.std.specs.Prelude.{◌≡◌, ◌+◌, ◌*◌, ◌<◌, ◌≤◌};
+ghost use Rattle.std.specs.Prelude.{◌≡◌, ◌≤◌};
 ghost use Rattle.std.specs.Option.{option_to_list};
 ghost use Rattle.records.specs.Fields.{records, taken};
 ghost use Rattle.script.specs.Script.{event_of, events};
 ghost use Rattle.job.specs.Play.{answered, called, fresh, played, plays, up_to};
-ghost use Rattle.job.specs.Stands.{Small, stand};
+ghost use Rattle.job.specs.Stands.{Room, Went, calls, stand};
 
 use crate::counting::{brought_by, failed_by, is_nothing};
 use law::{Answer, Call};
@@ -28,11 +28,9 @@ pub(crate) struct Play {
 impl Play {
     // Makes a call, and counts its answer.
     fn call<R: Radio>(&mut self, radio: &mut R, call: Call) -> Answer
-        requires { self.old.came + self.old.refused < 1000000000 }
-        ensures map { self.new.rig.map ≡ self.old.rig.map }
-        ensures after { stand self.new (R.state radio.new) ≡ called R.ways self.old.rig.map (stand self.old (R.state radio.old)) call }
+        requires { Room self.old 1 }
+        ensures went { Went self.old self.new (R.state radio.new) (called R.ways self.old.rig.map (stand self.old (R.state radio.old)) call) }
         ensures value { result ≡ answered R.ways self.old.rig.map (stand self.old (R.state radio.old)) call }
-        ensures counts { self.new.came + self.new.refused ≤ self.old.came + self.old.refused + 1 }
     {
         let answer = make(&mut self.rig, radio, call);
         self.came += brought_by(answer);
@@ -42,10 +40,8 @@ impl Play {
 
     // Up to so many deliveries, ending when nothing comes.
     fn deliver<R: Radio>(&mut self, radio: &mut R, times: u32)
-        requires { self.old.came + self.old.refused + times < 1000000000 }
-        ensures map { self.new.rig.map ≡ self.old.rig.map }
-        ensures after { stand self.new (R.state radio.new) ≡ up_to R.ways self.old.rig.map times (stand self.old (R.state radio.old)) }
-        ensures counts { self.new.came + self.new.refused ≤ self.old.came + self.old.refused + times }
+        requires { Room self.old times }
+        ensures { Went self.old self.new (R.state radio.new) (up_to R.ways self.old.rig.map times (stand self.old (R.state radio.old))) }
     {
         for _turn in 0..times {
             let answer = self.call(radio, Call::Deliver);
@@ -56,11 +52,8 @@ impl Play {
     }
 
     fn play<R: Radio>(&mut self, radio: &mut R, event: Event)
-        requires small { Small event }
-        requires room { self.old.came + self.old.refused < 100000000 }
-        ensures map { self.new.rig.map ≡ self.old.rig.map }
-        ensures after { stand self.new (R.state radio.new) ≡ played R.ways self.old.rig.map event (stand self.old (R.state radio.old)) }
-        ensures counts { self.new.came + self.new.refused ≤ self.old.came + self.old.refused + 4096 }
+        requires { Room self.old (calls event) }
+        ensures { Went self.old self.new (R.state radio.new) (played R.ways self.old.rig.map event (stand self.old (R.state radio.old))) }
     {
         match event {
             Event::Draw(node, number) => {
@@ -75,10 +68,8 @@ impl Play {
 
     // Plays the event of a record, if it is one.
     fn take<R: Radio>(&mut self, radio: &mut R, bytes: &[u8])
-        requires { self.old.came + self.old.refused < 100000000 }
-        ensures map { self.new.rig.map ≡ self.old.rig.map }
-        ensures after { stand self.new (R.state radio.new) ≡ plays R.ways self.old.rig.map (option_to_list (event_of (taken bytes.now))) (stand self.old (R.state radio.old)) }
-        ensures counts { self.new.came + self.new.refused ≤ self.old.came + self.old.refused + 4096 }
+        requires { Room self.old 4096 }
+        ensures { Went self.old self.new (R.state radio.new) (plays R.ways self.old.rig.map (option_to_list (event_of (taken bytes.now))) (stand self.old (R.state radio.old))) }
     {
         if let Some(event) = Event::from_record(bytes) {
             self.play(radio, event);
@@ -91,7 +82,6 @@ pub(crate) fn play_all<R: Radio>(map: &Map, radio: &mut R, job: &[u8]) -> Play
     requires { records job.now ≤ 4096 }
     ensures map { result.rig.map ≡ map.now }
     ensures after { stand result (R.state radio.new) ≡ plays R.ways map.now (events job.now) (fresh (R.state radio.old)) }
-    ensures counts { result.came + result.refused ≤ 16777216 }
 {
     let mut rig = Rig::new();
     rig.open(map);
@@ -100,8 +90,7 @@ pub(crate) fn play_all<R: Radio>(map: &Map, radio: &mut R, job: &[u8]) -> Play
         came: 0,
         refused: 0,
     };
-    let mut reader = Reader::new(job);
-    while let Some(record) = reader.next() {
+    for record in Reader::new(job) {
         play.take(radio, record);
     }
     play

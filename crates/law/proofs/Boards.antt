@@ -1,5 +1,5 @@
 -- What is shown of every call: it keeps the invariant, what it sends is true, and it decides one node rightly, or none.
-use Rattle.std.proofs.Common.{◌≡◌, ℕ, suc, ◌<◌, not, eqb, ◌⊎◌, [], ◌∷◌, length, sym, refl, ap, ◌∙◌, subst, inl, inr, ⊎_elim, arith}
+use Rattle.std.proofs.Common.{◌≡◌, ℕ, suc, ◌<◌, not, eqb, ◌⊎◌, [], ◌∷◌, length, sym, refl, ap, ◌∙◌, inl, inr, ⊎_elim, arith}
 use mathlib.Core.Path.{fun_ext}
 use mathlib.Core.List.Memᴰ
 use Rattle.std.proofs.lemmas.List.{length-set}
@@ -61,9 +61,8 @@ module _ (m : Map) where
 
   turns : (b : Board) → Fine b → (k : ℕ) (w : Node) → k < nodes m → Turn (linked m) (at b) k w → (i : ℕ) → Turn (linked m) (at b) i (at (put b k w) i)
   turns b f k w l t i = ⊎_elim
-      (λ e. subst (λ (j : ℕ). Turn (linked m) (at b) j (at (put b k w) j)) (sym e)
-      (subst (λ (v : Node). Turn (linked m) (at b) k v) (sym (at-put b k w (let s = m.most in let g = f.long in omega arith))) t))
-      (λ d. subst (λ (v : Node). Turn (linked m) (at b) i v) (sym (at_other b k i w d)) (stays (linked m) (at b) f.nodes i))
+      (λ e. rw (e, at-put b k w (let s = m.most in let g = f.long in omega arith)) t)
+      (λ d. rw (at_other b k i w d) (stays (linked m) (at b) f.nodes i))
       (cases_eq i k)
 
   -- one node makes a lawful turn
@@ -105,13 +104,13 @@ module _ (m : Map) where
 
   pub good_stay : (b : Board) {A : Type 0} (a : After A) → Fine b → a.board ≡ b → ((x : Message) → In x a.sent → Said m (at b) x) → Good b a
   good_stay b a f e s = record {
-    keeps = subst (λ (c : Board). Keeps b c) (sym e) (keeps_self b f);
-    sent = λ x i. subst (λ (c : Board). Said m (at c) x) (sym e) (s x i);
-    moved = inl (subst (λ (c : Board). Same b c) (sym e) (same_self b));
+    keeps = rw e (keeps_self b f);
+    sent = λ x i. rw e (s x i);
+    moved = inl (rw e (same_self b));
   }
 
   pub good_refused : (b : Board) → Fine b → {A : Type 0} (e : Refusal) → Good {A = A} b (refused b e)
   good_refused b f e = good_stay b _ f refl none_sent
 
   pub one_sent : (b : Board) (y : Message) → Said m (at b) y → (x : Message) → In x (y ∷ []) → Said m (at b) x
-  one_sent b y h x i = subst (λ (z : Message). Said m (at b) z) (sym (Memᴰ.eq_of_singleton i)) h
+  one_sent b y h x i = rw (Memᴰ.eq_of_singleton i) h

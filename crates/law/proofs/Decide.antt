@@ -1,5 +1,5 @@
 -- RAND's step: a node that all its neighbours granted takes the slot that RAND gives it next; and a slot is always free.
-use Rattle.std.proofs.Common.{◌≡◌, ℕ, zero, suc, ◌+◌, ◌<◌, ◌≤◌, Bool, true, false, cond, ◌&&◌, eqb, ltb, ◌⊎◌, List, Result, sym, refl, ap, ◌∙◌, subst, inl, inr, ⊎_elim, arith}
+use Rattle.std.proofs.Common.{◌≡◌, ℕ, zero, suc, ◌+◌, ◌<◌, ◌≤◌, Bool, true, false, cond, ◌&&◌, eqb, ltb, ◌⊎◌, Result, refl, ap, ◌∙◌, inl, inr, ⊎_elim, arith}
 use Rattle.std.proofs.lemmas.Bool.{both_ways, cases_Bool, cases_eq, cases_lt, and_parts, and_from, eq-eqb, eqb-true, lt-ltb, cond-true}
 use Rattle.marks.specs.Below.{sum_below, count_below}
 use Rattle.marks.specs.View.{marked}
@@ -10,7 +10,6 @@ use Rattle.map.specs.declared.Map.{Map}
 use Rattle.map.proofs.Contends.{contend_decides, contend_apart, contend_swap, contend_inside}
 use Rattle.schedule.specs.Rand.{first_from, holds, least}
 use Rattle.schedule.proofs.Slots.{some_find, some_at, crowd, first_below, least_is}
-use Rattle.radio.specs.declared.message.Message.{Message}
 use Rattle.rig.specs.declared.node.Node.{Node}
 use Rattle.rig.specs.declared.node.Phase.TheVariants.{Idle, Request}
 use Rattle.rig.specs.Calm.{at}
@@ -19,7 +18,7 @@ use Rattle.rig.specs.Steps.{lowest, decided, phased, slot_for, settled, settled_
 use Rattle.rig.proofs.Calms.{at_other}
 use Rattle.law.proofs.Facts.{Gone, Nodes}
 use Rattle.law.proofs.Moves.{decides, leaves, idle_quiet}
-use Rattle.law.proofs.Sends.{Said, each_in, release_true, fail_true}
+use Rattle.law.proofs.Sends.{each_in, release_true, fail_true}
 use Rattle.law.proofs.Boards.{Fine, Good, keeps_put, here, same_put}
 
 -- the slots taken are those of the contenders
@@ -37,13 +36,13 @@ module _ (m : Map) (nd : ℕ → Node) (inv : Nodes (linked m) nd) (k : ℕ) (q 
   below_taken t l = first_below (marked (nd k).taken) 0 64 t (omega arith) l
 
   below_held : (t : ℕ) → 1 ≤ t → t < suc (lowest (nd k).taken) → holds (contend m) (nodes m) (λ i. (nd i).slot) k t ≡ true
-  below_held zero a b = absurd (let z : ⊥ = omega arith in z)
+  below_held zero a b = absurd (omega arith)
   below_held (suc t) a b = taken-holds t (below_taken t (omega arith))
 
 -- who does not clash with itself leaves a place
 count_miss : (c : ℕ → Bool) (n k : ℕ) → k < n → c k ≡ false → count_below c n + 1 ≤ n
 unfolding sum_below
-count_miss c zero k l e = absurd (let z : ⊥ = omega arith in z)
+count_miss c zero k l e = absurd (omega arith)
 count_miss c (suc n) k l e = go (λ q. count_miss c n k q e) (cases_eq n k)
   where
     small : (v : Bool) → cond v 1 0 ≤ 1
@@ -67,7 +66,7 @@ slot_free m nd inv k l q = ⊎_elim (λ h. h) (λ h. absurd (full h)) (cases_lt 
 
 first_fails : (p : ℕ → Bool) (s k : ℕ) → first_from p s k < s + k → p (first_from p s k) ≡ false
 unfolding first_from
-first_fails p s zero h = absurd (let z : ⊥ = omega arith in z)
+first_fails p s zero h = absurd (omega arith)
 first_fails p s (suc k) h = go (λ i. first_fails p (suc s) k i) (p s) refl h
   where
     go : (first_from p (suc s) k < suc s + k → p (first_from p (suc s) k) ≡ false) → (v : Bool) → p s ≡ v → cond v (first_from p (suc s) k) s < s + suc k → p (cond v (first_from p (suc s) k) s) ≡ false
@@ -109,12 +108,12 @@ module _ (m : Map) (b : Board) (f : Fine m b) (k : ℕ) (l : k < nodes m) (q : (
     keeps = keeps_put m b f k (phased (at b k) Idle) l (leaves (linked m) (at b) f.nodes k q);
     sent = λ x i.
         let (j, near, e) = each_in (linked m k) (fail (at b k).round k) (nodes m) x i in
-        subst (λ (y : Message). Said m (at (gave_up m b k)) y) (sym e) (fail_true m (at (gave_up m b k)) (at b k).round k j near gone);
+        rw e (fail_true m (at (gave_up m b k)) (at b k).round k j near gone);
     moved = inl (same_put m b f k (phased (at b k) Idle) l refl refl);
   }
     where
       gone : Gone (at (gave_up m b k) k) (at b k).round
-      gone = subst (λ (v : Node). Gone v (at b k).round) (sym (here m b f k (phased (at b k) Idle) l)) (inr (refl, idle_quiet.0, f.nodes.calm k q))
+      gone = rw (here m b f k (phased (at b k) Idle) l) (inr (refl, idle_quiet.0, f.nodes.calm k q))
 
   free : lowest (at b k).taken < 64
   free = slot_free m (at b) f.nodes k l q
@@ -132,8 +131,7 @@ module _ (m : Map) (b : Board) (f : Fine m b) (k : ℕ) (l : k < nodes m) (q : (
   pub good_settle : ((c : ℕ) → linked m k c ≡ true → marked (at b k).granted c ≡ true) → {A : Type 0} (o : Result A Refusal)
       → Good m b (record { board = settled m b k; sent = settled_sent m b k; answer = o })
   good_settle all {A} o =
-      subst (λ (c : Board). Good m {A = A} b (record { board = c; sent = settled_sent m b k; answer = o })) (sym settled_is)
-      (subst (λ (out : List Message). Good m {A = A} b (record { board = chosen; sent = out; answer = o })) (sym sent_is) done)
+      rw (settled_is, sent_is) done
     where
       at_k : at chosen k ≡ decided (at b k) (slot_for m b k) (suc (decided_count (nodes m) b))
       at_k = here m b f k (decided (at b k) (slot_for m b k) (suc (decided_count (nodes m) b))) l
@@ -147,7 +145,7 @@ module _ (m : Map) (b : Board) (f : Fine m b) (k : ℕ) (l : k < nodes m) (q : (
         keeps = keeps_put m b f k _ l (decides (linked m) (at b) f.nodes k q (λ c h. (f.nodes.grants k c q (all c (m.both k c ∙ h))).1) (lowest (at b k).taken) (suc (decided_count (nodes m) b)) free);
         sent = λ x i.
             let (j, near, e) = each_in (linked m k) (release (slot_for m b k) (at b k).round k) (nodes m) x i in
-            subst (λ (y : Message). Said m (at chosen) y) (sym e)
+            rw e
             (release_true m (at chosen) (slot_for m b k) (at b k).round k j (lowest (at b k).taken) near
             (let s = free in omega arith) refl (ap (λ (v : Node). v.slot) at_k) (ap (λ (v : Node). v.round) at_k));
         moved = inr (

@@ -17,7 +17,7 @@ use Rattle.rig.specs.declared.node.Phase.TheVariants.{Idle, Request, Grant, Rele
 use Rattle.rig.specs.Calm.{at, is_request, is_grant}
 use Rattle.rig.specs.Board.{Board, put}
 use Rattle.rig.specs.Steps.{After, bound, counted, hearing, freed, waits, serves, offered, unmarked, foreign, sends, granting, on_request, complete, counts, settled, settled_sent, on_grant, on_reject, frees, hears, received, delivered, grant, release, fail}
-use Rattle.law.proofs.Facts.{Locks, Live, Gone, Held, Fact}
+use Rattle.law.proofs.Facts.{Locks, Live, Gone, Fact}
 use Rattle.law.proofs.Turns.{not_zero}
 use Rattle.law.proofs.Marking.{added_new}
 use Rattle.law.proofs.Moves.{Quiet, idle_quiet, release_quiet, binds, learns, opens, counts as grows}
@@ -26,16 +26,16 @@ use Rattle.law.proofs.Boards.{Same, Fine, Keeps, Good, keeps_put, here, same_put
 use Rattle.law.proofs.Decide.{good_up, good_settle}
 
 pub is-request : (p : Phase) → is_request p ≡ true → p ≡ Request
-is-request Idle e = absurd (both_ways false refl e)
+is-request Idle e = cc
 is-request Request e = refl
-is-request Grant e = absurd (both_ways false refl e)
-is-request Release e = absurd (both_ways false refl e)
+is-request Grant e = cc
+is-request Release e = cc
 
 is-grant : (p : Phase) → is_grant p ≡ true → p ≡ Grant
-is-grant Idle e = absurd (both_ways false refl e)
-is-grant Request e = absurd (both_ways false refl e)
+is-grant Idle e = cc
+is-grant Request e = cc
 is-grant Grant e = refl
-is-grant Release e = absurd (both_ways false refl e)
+is-grant Release e = cc
 
 pub waits_live : (v : Node) (r : ℕ) → waits v r ≡ true → Live v r
 waits_live v r h = let (x, y) = and_parts (is_request v.phase) (eqb r v.round) h in (is-request v.phase x, sym (eqb-true r v.round y))
@@ -75,15 +75,15 @@ module _ (m : Map) (b : Board) (f : Fine m b) where
         same_set = ap offered at_k ∙ offered-bound (at b x.receiver) x.sender x.round
 
         lock : Locks (at (put b x.receiver (bound (at b x.receiver) x.sender x.round)) x.receiver) x.sender x.round
-        lock = subst (λ (v : Node). Locks v x.sender x.round) (sym at_k) (refl, refl, refl)
+        lock = rw at_k (refl, refl, refl)
 
     good_request : x.kind ≡ 1 → (p : Phase) → (at b x.receiver).phase ≡ p → Good m b (on_request m b x p)
-    good_request e Idle d = good_granting e (subst (λ (p : Phase). Quiet p) (sym d) idle_quiet)
+    good_request e Idle d = good_granting e (rw d idle_quiet)
     good_request e Request d = good_stay m b _ f refl (one_sent m b _ (reject_true m (at b) x.round x.receiver x.sender back))
     good_request e Grant d = cond_both (serves (at b x.receiver) x.sender x.round) _ _ (Good m b)
         (λ h. good_stay m b _ f refl (one_sent m b _ (grant_true m (at b) f.nodes x.receiver x.sender x.round (serves_locks (at b x.receiver) x.sender x.round h))))
         (λ _. good_stay m b _ f refl (one_sent m b _ (reject_true m (at b) x.round x.receiver x.sender back)))
-    good_request e Release d = good_granting e (subst (λ (p : Phase). Quiet p) (sym d) release_quiet)
+    good_request e Release d = good_granting e (rw d release_quiet)
 
     -- a grant that comes too late
     good_late : x.kind ≡ 2 → waits (at b x.receiver) x.round ≡ false → Good m b (cond (not (eqb (at b x.receiver).slot 0) && eqb (at b x.receiver).dated x.round)
@@ -121,7 +121,7 @@ module _ (m : Map) (b : Board) (f : Fine m b) where
     pub counts_kept : x.kind ≡ 2 → Live (at b x.receiver) x.round → Keeps m b (counts m b x)
     counts_kept e live = let (held, sound) = (fact.gives e).1 live in
         keeps_put m b f x.receiver _ inside (grows (linked m) (at b) f.nodes x.receiver m.apart live.0 x.sender x.slots
-        (subst (λ (r : ℕ). Held (linked m) (at b) x.sender x.receiver r x.slots) (sym live.1) held) sound)
+        (rw live.1 held) sound)
 
     good_count : x.kind ≡ 2 → waits (at b x.receiver) x.round ≡ true → Good m b (cond (complete m (counts m b x) x.receiver) (sends m (settled m (counts m b x) x.receiver) (settled_sent m (counts m b x) x.receiver) GrantKind) (sends m (counts m b x) [] GrantKind))
     good_count e w = cond_both (complete m (counts m b x) x.receiver) _ _ (Good m b)
@@ -174,7 +174,7 @@ module _ (m : Map) (b : Board) (f : Fine m b) where
         over live (inr (_, n, _)) = n live.0
 
         known : (j : ℕ) → (at b x.sender).slot ≡ suc j → x.round ≡ (at b x.sender).round → Gone (at b x.sender) x.round → marked (at b x.receiver).heard j ≡ true
-        known j s r (inl l) = absurd (let z : ⊥ = omega arith in z)
+        known j s r (inl l) = absurd (omega arith)
         known j s r (inr (_, _, z)) = not_zero (at b x.sender).slot j z s
 
 module _ (m : Map) (b : Board) (f : Fine m b) where
@@ -196,7 +196,7 @@ module _ (m : Map) (b : Board) (f : Fine m b) where
 
       known : (j : ℕ) → (at (hears m b x) x.sender).slot ≡ suc j → x.round ≡ (at (hears m b x) x.sender).round → marked (at (hears m b x) x.receiver).heard j ≡ true
       known j d _ = let (i, s, t, r) = (kept.facts x fact).tells e in
-          subst (λ (v : Node). marked v.heard j ≡ true) (sym (here m b f x.receiver (hearing (at b x.receiver) x.slot) in_map)) (added_new (at b x.receiver).heard (x.slot - 1) j (let q = kept.fine.nodes.small x.sender in omega arith) (omega arith))
+          rw (here m b f x.receiver (hearing (at b x.receiver) x.slot) in_map) (added_new (at b x.receiver).heard (x.slot - 1) j (let q = kept.fine.nodes.small x.sender in omega arith) (omega arith))
 
   good_received : (x : Message) → Fact (linked m) (at b) x → Good m b (received m b x)
   good_received x fact =

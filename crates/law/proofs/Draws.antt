@@ -1,11 +1,10 @@
 -- A draw keeps the invariant.
-use Rattle.std.proofs.Common.{◌≡◌, ℕ, ◌+◌, ◌<◌, false, ◌||◌, eqb, ltb, Ok, sym, refl, ap, ◌∙◌, subst, inl, arith}
+use Rattle.std.proofs.Common.{◌≡◌, ℕ, ◌+◌, ◌<◌, false, ◌||◌, eqb, ltb, Ok, refl, ap, ◌∙◌, inl, arith}
 use Rattle.std.proofs.lemmas.Bool.{both_ways, or_parts, eqb-true, eqb-false, ltb-true, cond_both}
 use Rattle.marks.specs.Below.{some_below}
 use Rattle.map.specs.View.{linked, nodes}
 use Rattle.map.specs.declared.Map.{Map}
 use Rattle.schedule.proofs.Slots.{some_at}
-use Rattle.radio.specs.declared.message.Message.{Message}
 use Rattle.rig.specs.declared.Lottery.TheVariants.{Asked, Decided}
 use Rattle.rig.specs.declared.node.Node.{Node}
 use Rattle.rig.specs.declared.node.Phase.TheVariants.{Grant}
@@ -13,7 +12,7 @@ use Rattle.rig.specs.Calm.{at, is_request, is_grant}
 use Rattle.rig.specs.Board.{Board, put}
 use Rattle.rig.specs.Steps.{asking, to_all, settled, settled_sent, wins, won, drawn, request}
 use Rattle.law.proofs.Moves.{asks}
-use Rattle.law.proofs.Sends.{Said, each_in, request_true}
+use Rattle.law.proofs.Sends.{each_in, request_true}
 use Rattle.law.proofs.Boards.{Same, Fine, Keeps, Good, keeps_put, here, same_put, good_after, good_stay, good_refused, none_sent}
 use Rattle.law.proofs.Decide.{good_settle}
 
@@ -35,7 +34,7 @@ module _ (m : Map) (b : Board) (f : Fine m b) where
         keeps = kept;
         sent = λ x i.
             let (j, near, d) = each_in (linked m k) (request ((at b k).round + 1) k) (nodes m) x i in
-            subst (λ (y : Message). Said m (at (put b k (asking (at b k)))) y) (sym d)
+            rw d
             (request_true m (at (put b k (asking (at b k)))) ((at b k).round + 1) k j near (let r = ap (λ (v : Node). v.round) at_k in omega arith));
         moved = inl same;
       }

@@ -1,5 +1,5 @@
 -- Every run keeps the law.
-use Rattle.std.proofs.Common.{◌≡◌, ℕ, ◌<◌, ◌≤◌, Bool, true, false, not, ◌||◌, eqb, ltb, ◌⊎◌, List, [], ◌∷◌, ◌++◌, Some, sym, refl, ap, ◌∙◌, subst, inl, inr, ⊎_elim, append-nil, arith}
+use Rattle.std.proofs.Common.{◌≡◌, ℕ, ◌<◌, ◌≤◌, Bool, true, false, not, ◌||◌, eqb, ltb, ◌⊎◌, List, [], ◌∷◌, ◌++◌, Some, sym, refl, ap, ◌∙◌, inl, inr, ⊎_elim, append-nil, arith}
 use mathlib.Core.Path.{fun_ext}
 use mathlib.Core.List.Memᴰ
 use Rattle.std.proofs.lemmas.Bool.{cases_Bool, cases_eq, eq-eqb, ne_eqb, and_from, and_left, and_right, or_parts, not-false}
@@ -44,19 +44,19 @@ blank_nodes lk = record {
   dates = λ a j e. refl;
   locked = λ b a r l. absurd (idle_quiet.1 l.0);
   truly = λ b j h. none-marked j h;
-  fully = λ b c j l e. absurd (let z : ⊥ = omega arith in z);
+  fully = λ b c j l e. absurd (omega arith);
   grants = λ a b e. absurd (idle_quiet.0 e);
   takes = λ a j e. absurd (idle_quiet.0 e);
 }
 
 pub new_fine : (m : Map) → Fine m new_board
-new_fine m = record { long = refl; nodes = subst (λ (nd : ℕ → Node). Nodes (linked m) nd) (sym (fun_ext (at-blank 64))) (blank_nodes (linked m)) }
+new_fine m = record { long = refl; nodes = rw (fun_ext (at-blank 64)) (blank_nodes (linked m)) }
 
 pub new_ranks : (m : Map) → Ranks m [] new_board
 new_ranks m = record {
   slots = λ k l. ap (λ (v : Node). v.slot) (at-blank 64 k) ∙ sym (rand_none (contend m) (nodes m) k);
-  named = λ i l. absurd (let z : ⊥ = omega arith in z);
-  all = λ k l h. absurd (let q = ap (λ (v : Node). v.slot) (at-blank 64 k) in let z : ⊥ = omega arith in z);
+  named = λ i l. absurd (omega arith);
+  all = λ k l h. absurd (let q = ap (λ (v : Node). v.slot) (at-blank 64 k) in omega arith);
   none = λ k l e. ap (λ (v : Node). v.turn) (at-blank 64 k);
   count = count_none (λ k. not (eqb (at new_board k).slot 0)) (nodes m) (λ k l. ap (λ (v : Node). not (eqb v.slot 0)) (at-blank 64 k));
 }
@@ -71,13 +71,12 @@ stays_put b b' k e = ⊎_elim
 module _ (m : Map) where
   ranks_on : (order : List ℕ) (b b' : Board) → Same b b' ⊎ ((k : ℕ) × Settles m b b' k) → Ranks m order b → Ranks m (order ++ deciders m b b') b'
   ranks_on order b b' (inl s) r =
-      subst (λ (o : List ℕ). Ranks m (order ++ o) b') (sym (each_none (decides b b') (λ k. k) (nodes m) (λ k l. stays_put b b' k (s.slot k))))
-      (subst (λ (o : List ℕ). Ranks m o b') (sym (append-nil order)) (ranks_same m order b b' s r))
-  ranks_on order b b' (inr (k, s)) r = subst (λ (o : List ℕ). Ranks m (order ++ o) b') (sym one) (ranks_more m order b b' k s r)
+      rw (each_none (decides b b') (λ k. k) (nodes m) (λ k l. stays_put b b' k (s.slot k)), append-nil order) (ranks_same m order b b' s r)
+  ranks_on order b b' (inr (k, s)) r = rw one (ranks_more m order b b' k s r)
     where
       one : deciders m b b' ≡ k ∷ []
       one = each_one (decides b b') (λ k. k) (nodes m) k s.inside
-          (and_from (eqb (at b k).slot 0) (not (eqb (at b' k).slot 0)) (eq-eqb (at b k).slot 0 s.before) (ap not (ne_eqb (at b' k).slot 0 (λ e. let p = s.after in let z : ⊥ = omega arith in z))))
+          (and_from (eqb (at b k).slot 0) (not (eqb (at b' k).slot 0)) (eq-eqb (at b k).slot 0 s.before) (ap not (ne_eqb (at b' k).slot 0 (λ e. let p = s.after in omega arith))))
           (λ i d. stays_put b b' i (s.others i d).0)
 
   -- no two
@@ -100,7 +99,7 @@ module _ {S : Type 0} (w : Ways S) (rule : AirRule w) (m : Map) where
   start s e = record {
     fine = new_fine m;
     ranks = new_ranks m;
-    air = λ x i. absurd (Memᴰ.not-nil (subst (λ (a : List Message). In x a) e i));
+    air = λ x i. absurd (Memᴰ.not-nil (rw e at i));
   }
 
   module _ (order : List ℕ) (b : Board) (s : S) (i : Inv order b s) where
@@ -147,7 +146,7 @@ module _ {S : Type 0} (w : Ways S) (rule : AirRule w) (m : Map) where
             let live = waits_live (at b x.receiver) x.round q in
             let kept = counts_kept m b i.fine x said.fact (link said.home) e live in
             let here' = here m b i.fine x.receiver (counted (at b x.receiver) x.sender x.slots) (inside (link said.home)) in
-            subst (λ (v : Node). lowest v.taken < 64) here'
+            rw here' at
             (slot_free m (at (counts m b x)) kept.fine.nodes x.receiver (inside (link said.home)) (ap (λ (v : Node). v.phase) here' ∙ live.0))
           where
             link : foreign m x ≡ false → linked m x.sender x.receiver ≡ true

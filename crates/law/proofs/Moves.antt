@@ -1,5 +1,5 @@
 -- The turns that the rules allow a node.
-use Rattle.std.proofs.Common.{◌≡◌, ℕ, suc, ◌-◌, ◌<◌, ◌≤◌, Bool, true, false, eqb, sym, refl, ap, ◌∙◌, subst, inl, inr, ⊎_elim, arith}
+use Rattle.std.proofs.Common.{◌≡◌, ℕ, suc, ◌-◌, ◌<◌, ◌≤◌, Bool, true, false, eqb, sym, refl, ap, ◌∙◌, inl, inr, ⊎_elim, arith}
 use Rattle.std.proofs.lemmas.Bool.{cond_both}
 use Rattle.marks.specs.declared.Marks.{Marks}
 use Rattle.marks.specs.View.{marked}
@@ -17,19 +17,19 @@ abbrev pub Quiet : Phase → Type 0
 Quiet p = (p ≡ Request → ⊥) × (p ≡ Grant → ⊥)
 
 pub idle_quiet : Quiet Idle
-idle_quiet = (λ e. let z : ◌≡◌ {A = ℕ} 0 1 = cc in omega arith, λ e. let z : ◌≡◌ {A = ℕ} 0 1 = cc in omega arith)
+idle_quiet = (λ e. cc, λ e. cc)
 
 pub release_quiet : Quiet Release
-release_quiet = (λ e. let z : ◌≡◌ {A = ℕ} 0 1 = cc in omega arith, λ e. let z : ◌≡◌ {A = ℕ} 0 1 = cc in omega arith)
+release_quiet = (λ e. cc, λ e. cc)
 
 pub freed_quiet : (v : Node) → Quiet (freed v).phase
 freed_quiet v = cond_both (eqb v.slot 0) Idle Release Quiet (λ _. idle_quiet) (λ _. release_quiet)
 
 not_grant : Grant ≡ Request → ⊥
-not_grant e = not_both Grant e refl
+not_grant e = cc
 
 not_request : Request ≡ Grant → ⊥
-not_request e = not_both Request refl e
+not_request e = cc
 
 module _ (lk : ℕ → ℕ → Bool) (nd : ℕ → Node) (inv : Nodes lk nd) (k : ℕ) where
   pub stays : Turn lk nd k (nd k)
@@ -66,7 +66,7 @@ module _ (lk : ℕ → ℕ → Bool) (nd : ℕ → Node) (inv : Nodes lk nd) (k 
     rounds = omega arith;
     hears = λ j _ h. h;
     gone = λ r o. inl (⊎_elim (λ l. omega arith) (λ p. let h = p.0 in omega arith) o);
-    live = λ r l p. absurd (let h = p.1 in let z : ⊥ = omega arith in z);
+    live = λ r l p. absurd (let h = p.1 in omega arith);
     fresh = λ j s. inl s;
     locks = λ a r l. absurd (g l.0);
   }
@@ -78,7 +78,7 @@ module _ (lk : ℕ → ℕ → Bool) (nd : ℕ → Node) (inv : Nodes lk nd) (k 
     small = inv.small k;
     few = inv.few k;
     dates = inv.dates k;
-    locked = λ a' r' (_, x, y). (subst (λ (i : ℕ). lk k i ≡ true) x l, subst (λ (i : ℕ). r' ≤ (nd i).round) x (subst (λ (i : ℕ). i ≤ (nd a).round) y le));
+    locked = λ a' r' (_, x, y). (rw x at l, rw (y, x) at le);
     truly = inv.truly k;
     grants = λ e. absurd (not_grant e);
     takes = λ e. absurd (not_grant e);
@@ -118,10 +118,10 @@ module _ (lk : ℕ → ℕ → Bool) (nd : ℕ → Node) (inv : Nodes lk nd) (k 
       old b h = let (l, lock, full) = inv.grants k b q h in (l, lock, λ c j n e. joined_left (nd k).taken s j (small c j e) (full c j n e))
 
       new : (b : ℕ) → b ≡ a → Held lk nd b k (nd k).round (joined (nd k).taken s)
-      new b e = subst (λ (i : ℕ). Held lk nd i k (nd k).round (joined (nd k).taken s)) (sym e) (held.0, held.1, λ c j n d. joined_right (nd k).taken s j (small c j d) (held.2 c j n d))
+      new b e = rw e (held.0, held.1, λ c j n d. joined_right (nd k).taken s j (small c j d) (held.2 c j n d))
 
       around : {j : ℕ} → (c : ℕ) × Near lk a c × ((nd c).slot ≡ suc j) → (c : ℕ) × Contends lk k c × ((nd c).slot ≡ suc j)
-      around {j} (c, inl e, d) = (c, ((λ z. not_zero (nd k).slot j (inv.calm k q) (ap (λ (i : ℕ). (nd i).slot) z ∙ d)), inl (subst (λ (i : ℕ). lk k i ≡ true) (sym e) held.0)), d)
+      around {j} (c, inl e, d) = (c, ((λ z. not_zero (nd k).slot j (inv.calm k q) (ap (λ (i : ℕ). (nd i).slot) z ∙ d)), inl (rw e held.0)), d)
       around {j} (c, inr l, d) = (c, ((λ z. not_zero (nd k).slot j (inv.calm k q) (ap (λ (i : ℕ). (nd i).slot) z ∙ d)), inr (a, held.0, l)), d)
 
   -- all grants are there
@@ -205,5 +205,4 @@ module _ (lk : ℕ → ℕ → Bool) (nd : ℕ → Node) (inv : Nodes lk nd) (k 
   }
     where
       moved : (a' r' : ℕ) → a ≡ a' → r ≡ r' → (Live (nd a') r' → ⊥) × ((j : ℕ) → (nd a').slot ≡ suc j → r' ≡ (nd a').round → marked (nd k).heard j ≡ true)
-      moved a' r' x y = subst (λ (i : ℕ). (Live (nd i) r' → ⊥) × ((j : ℕ) → (nd i).slot ≡ suc j → r' ≡ (nd i).round → marked (nd k).heard j ≡ true)) x
-          (subst (λ (i : ℕ). (Live (nd a) i → ⊥) × ((j : ℕ) → (nd a).slot ≡ suc j → i ≡ (nd a).round → marked (nd k).heard j ≡ true)) y (over, known))
+      moved a' r' x y = rw (← x, ← y) (over, known)

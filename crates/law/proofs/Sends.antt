@@ -1,9 +1,8 @@
 -- What a node sends is true of it, and not foreign.
-use Rattle.std.proofs.Common.{◌≡◌, ℕ, zero, suc, ◌-◌, ◌<◌, ◌≤◌, Bool, true, false, cond, not, ◌||◌, eqb, ◌⊎◌, [], ◌∷◌, sym, refl, ap, ◌∙◌, subst, ap₂, inl, inr, ⊎_elim, arith}
+use Rattle.std.proofs.Common.{◌≡◌, ℕ, zero, suc, ◌-◌, ◌<◌, ◌≤◌, Bool, true, false, cond, not, ◌||◌, eqb, ◌⊎◌, [], ◌∷◌, sym, refl, ap, ◌∙◌, ap₂, inl, inr, ⊎_elim, arith}
 use mathlib.Core.List.Memᴰ
 use mathlib.Core.List.{Memᴰ}
-use Rattle.std.proofs.lemmas.Bool.{both_ways, cond-true, cond-false, eq-eqb, ne_eqb, le-ltb}
-use Rattle.marks.specs.declared.Marks.{Marks}
+use Rattle.std.proofs.lemmas.Bool.{cond-true, cond-false, eq-eqb, ne_eqb, le-ltb}
 use Rattle.marks.specs.View.{marked}
 use Rattle.marks.specs.Sets.{added}
 use Rattle.map.specs.View.{linked}
@@ -45,18 +44,18 @@ cases_slot zero = inl refl
 cases_slot (suc j) = inr (j, refl)
 
 offered_own : (v : Node) (j : ℕ) → v.slot ≤ 64 → v.slot ≡ suc j → marked (offered v) j ≡ true
-offered_own v j l e = subst (λ (s : Marks). marked s j ≡ true) (sym (offered_at v j e)) (added_new v.heard (v.slot - 1) j (omega arith) (omega arith))
+offered_own v j l e = rw (offered_at v j e) (added_new v.heard (v.slot - 1) j (omega arith) (omega arith))
 
 offered_heard : (v : Node) (j : ℕ) → j < 64 → marked v.heard j ≡ true → marked (offered v) j ≡ true
 offered_heard v j l h = ⊎_elim
-    (λ e. subst (λ (s : Marks). marked s j ≡ true) (sym (offered_none v e)) h)
-    (λ (i, e). subst (λ (s : Marks). marked s j ≡ true) (sym (offered_at v i e)) (added_old v.heard (v.slot - 1) j l h))
+    (λ e. rw (offered_none v e) h)
+    (λ (i, e). rw (offered_at v i e) (added_old v.heard (v.slot - 1) j l h))
     (cases_slot v.slot)
 
 offered_cases : (v : Node) (j : ℕ) → marked (offered v) j ≡ true → (marked v.heard j ≡ true) ⊎ (v.slot ≡ suc j)
 offered_cases v j h = ⊎_elim
-    (λ e. inl (subst (λ (s : Marks). marked s j ≡ true) (offered_none v e) h))
-    (λ (i, e). ⊎_elim inl (λ d. inr (let z : v.slot ≡ suc j = omega arith in z)) (added_cases v.heard (v.slot - 1) j (subst (λ (s : Marks). marked s j ≡ true) (offered_at v i e) h)))
+    (λ e. inl (rw (offered_none v e) at h))
+    (λ (i, e). ⊎_elim inl (λ d. inr (omega arith)) (added_cases v.heard (v.slot - 1) j (rw (offered_at v i e) at h)))
     (cases_slot v.slot)
 
 -- what is said
@@ -66,18 +65,14 @@ pub record Said (m : Map) (nd : ℕ → Node) (x : Message) : Type 0 where
   pub fact : Fact (linked m) nd x
   pub home : foreign m x ≡ false
 
--- a kind is no other kind
-other : {A : Type 0} (kind k : ℕ) → eqb kind k ≡ false → kind ≡ k → A
-other kind k n e = absurd (both_ways (eqb kind k) n (eq-eqb kind k e))
-
 module _ (m : Map) (nd : ℕ → Node) where
   pub request_true : (r a b : ℕ) → linked m a b ≡ true → r ≤ (nd a).round → Said m nd (request r a b)
   request_true r a b l h = record {
     fact = record {
       asks = λ _. h;
-      gives = other 1 2 refl;
-      tells = other 1 4 refl;
-      fails = other 1 5 refl;
+      gives = λ e. absurd (omega arith);
+      tells = λ e. absurd (omega arith);
+      fails = λ e. absurd (omega arith);
     };
     home = ap (λ (v : Bool). not v || false) l;
   }
@@ -85,10 +80,10 @@ module _ (m : Map) (nd : ℕ → Node) where
   pub reject_true : (r a b : ℕ) → linked m a b ≡ true → Said m nd (reject r a b)
   reject_true r a b l = record {
     fact = record {
-      asks = other 3 1 refl;
-      gives = other 3 2 refl;
-      tells = other 3 4 refl;
-      fails = other 3 5 refl;
+      asks = λ e. absurd (omega arith);
+      gives = λ e. absurd (omega arith);
+      tells = λ e. absurd (omega arith);
+      fails = λ e. absurd (omega arith);
     };
     home = ap (λ (v : Bool). not v || false) l;
   }
@@ -96,20 +91,20 @@ module _ (m : Map) (nd : ℕ → Node) where
   pub release_true : (t r a b j : ℕ) → linked m a b ≡ true → t ≤ 64 → t ≡ suc j → (nd a).slot ≡ suc j → (nd a).round ≡ r → Said m nd (release t r a b)
   release_true t r a b j l few e d h = record {
     fact = record {
-      asks = other 4 1 refl;
-      gives = other 4 2 refl;
+      asks = λ e. absurd (omega arith);
+      gives = λ e. absurd (omega arith);
       tells = λ _. (j, e, d, h);
-      fails = other 4 5 refl;
+      fails = λ e. absurd (omega arith);
     };
-    home = ap₂ (λ (u v : Bool). not u || v) l (ap₂ (λ (u v : Bool). u || v) (ne_eqb t 0 (λ z. let w : ⊥ = omega arith in w)) (le-ltb 64 t few));
+    home = ap₂ (λ (u v : Bool). not u || v) l (ap₂ (λ (u v : Bool). u || v) (ne_eqb t 0 (λ z. omega arith)) (le-ltb 64 t few));
   }
 
   pub fail_true : (r a b : ℕ) → linked m a b ≡ true → Gone (nd a) r → Said m nd (fail r a b)
   fail_true r a b l g = record {
     fact = record {
-      asks = other 5 1 refl;
-      gives = other 5 2 refl;
-      tells = other 5 4 refl;
+      asks = λ e. absurd (omega arith);
+      gives = λ e. absurd (omega arith);
+      tells = λ e. absurd (omega arith);
       fails = λ _. g;
     };
     home = ap (λ (v : Bool). not v || false) l;
@@ -119,10 +114,10 @@ module _ (m : Map) (nd : ℕ → Node) where
   pub grant_true : Nodes (linked m) nd → (b a r : ℕ) → Locks (nd b) a r → Said m nd (grant (offered (nd b)) r b a)
   grant_true inv b a r lock = record {
     fact = record {
-      asks = other 2 1 refl;
+      asks = λ e. absurd (omega arith);
       gives = λ _. ((inv.locked b a r lock).1, λ live. ((m.both a b ∙ (inv.locked b a r lock).0, lock, λ c j n e. full live c j e n), sound));
-      tells = other 2 4 refl;
-      fails = other 2 5 refl;
+      tells = λ e. absurd (omega arith);
+      fails = λ e. absurd (omega arith);
     };
     home = ap (λ (v : Bool). not v || false) (inv.locked b a r lock).0;
   }

@@ -1,5 +1,5 @@
 -- The invariant stays when each node makes a lawful turn.
-use Rattle.std.proofs.Common.{◌≡◌, ℕ, suc, Bool, true, ◌⊎◌, sym, refl, ap, ◌∙◌, subst, inl, inr, ⊎_elim, arith}
+use Rattle.std.proofs.Common.{◌≡◌, ℕ, suc, Bool, true, ◌⊎◌, sym, refl, ap, ◌∙◌, inl, inr, ⊎_elim, arith}
 use Rattle.marks.specs.declared.Marks.{Marks}
 use Rattle.marks.specs.View.{marked}
 use Rattle.radio.specs.declared.message.Message.{Message}
@@ -9,10 +9,10 @@ use Rattle.rig.specs.declared.node.Phase.TheVariants.{Request, Grant}
 use Rattle.law.proofs.Facts.{Locks, Live, Near, Held, Nodes, Fact, Turn}
 
 pub not_both : {A : Type 0} (p : Phase) → p ≡ Request → p ≡ Grant → A
-not_both p e f = absurd (let z : ◌≡◌ {A = ℕ} 0 1 = cc in omega arith)
+not_both p e f = cc
 
 pub not_zero : {A : Type 0} (n j : ℕ) → n ≡ 0 → n ≡ suc j → A
-not_zero n j e f = absurd (let z : ⊥ = omega arith in z)
+not_zero n j e f = absurd (omega arith)
 
 module _ (lk : ℕ → ℕ → Bool) (nd nd' : ℕ → Node) (inv : Nodes lk nd) (turn : (k : ℕ) → Turn lk nd k (nd' k)) where
   -- around a node in grant for a live round nobody decides
@@ -45,7 +45,7 @@ module _ (lk : ℕ → ℕ → Bool) (nd nd' : ℕ → Node) (inv : Nodes lk nd)
   grants' : (a b : ℕ) → (nd' a).phase ≡ Request → marked (nd' a).granted b ≡ true → Held lk nd' b a (nd' a).round (nd' a).taken
   grants' a b q h =
       let (q0, s, held) = (turn a).grants q b h in
-      subst (λ (r : ℕ). Held lk nd' b a r (nd' a).taken) (sym s) (held_kept b a (nd a).round (nd' a).taken (q0, refl) (q, s) held)
+      rw s (held_kept b a (nd a).round (nd' a).taken (q0, refl) (q, s) held)
 
   pub nodes_kept : Nodes lk nd'
   nodes_kept = record {

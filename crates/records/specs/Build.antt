@@ -1,13 +1,13 @@
 -- The map that a job of N and L records describes, and the first record that breaks the rules.
-use Rattle.std.specs.Prelude.{◌≡◌, ℕ, zero, suc, ◌+◌, ◌-◌, ◌*◌, ◌<◌, Bool, true, false, not, ◌&&◌, ◌⊎◌, List, length, Some, None, Ok, Err, Option, Result, ◌==◌, nat_le, nat_lt, slice_index}
+use Rattle.std.specs.Prelude.{◌≡◌, ℕ, zero, suc, ◌+◌, ◌-◌, ◌*◌, Bool, false, not, ◌&&◌, List, length, Some, None, Ok, Err, Option, Result, ◌==◌, nat_le, nat_lt, slice_index}
 use Rattle.marks.specs.Below.{some_below}
 use Rattle.refusal.specs.declared.Refusal.{Refusal}
-use Rattle.refusal.specs.declared.Refusal.TheVariants.{Short, Count, Node, SelfLink, Twice, Missing, Unlinked, Settled, Busy, Spent, Quiet, Foreign, Torn, Record}
 use Rattle.map.specs.View.{Net, net}
 use Rattle.map.specs.Calls.{ends}
 use Rattle.map.specs.declared.Map.{Map}
 use Rattle.records.specs.declared.fields.Record.{Record as Fields}
 use Rattle.records.specs.Fields.{length_rule, records, record_at, taken}
+use Rattle.records.specs.Fits.{FirstUnfit, AllFit, RefusedFor}
 
 -- N (78) opens a map of 1 to 64 nodes; its other bytes are 0
 abbrev pub opens : Option Fields → Bool
@@ -45,32 +45,16 @@ abbrev pub described : List ℕ → Net
 described job = front job (records job - 1)
 
 -- record i is the first that is not good; of an empty job, 0
-pub record FirstBad (job : List ℕ) (i : ℕ) : Type 0 where
-  pub before : (j : ℕ) → j < i → good job j ≡ true
-  pub bad : good job i ≡ false
-  pub there : (i < records job) ⊎ ((i ≡ 0) × (records job ≡ 0))
+abbrev pub FirstBad : List ℕ → ℕ → Type 0
+FirstBad job i = FirstUnfit (good job) (records job) i
 
 -- every record is good, of which there is at least one
-pub record AllGood (job : List ℕ) : Type 0 where
-  pub some : 0 < records job
-  pub each : (i : ℕ) → i < records job → good job i ≡ true
+abbrev pub AllGood : List ℕ → Type 0
+AllGood job = AllFit (good job) (records job)
 
 -- why a job is refused: 2 or 13 by its length, or 14 at the first bad record; for no other reason
 abbrev pub Refused : List ℕ → Refusal → Type 0
-Refused job Short = ⊥
-Refused job Count = length_rule (length job) ≡ Err Count
-Refused job Node = ⊥
-Refused job SelfLink = ⊥
-Refused job Twice = ⊥
-Refused job Missing = ⊥
-Refused job Unlinked = ⊥
-Refused job Settled = ⊥
-Refused job Busy = ⊥
-Refused job Spent = ⊥
-Refused job Quiet = ⊥
-Refused job Foreign = ⊥
-Refused job Torn = length_rule (length job) ≡ Err Torn
-Refused job (Record i) = (length_rule (length job) ≡ Ok tt) × FirstBad job i
+Refused job e = RefusedFor (good job) job e
 
 -- what building answers: the described map where every record is good, else the refusal
 abbrev pub Built : List ℕ → Result Map Refusal → Type 0

@@ -1,3 +1,4 @@
 pub mod Fields
 pub mod Build
 pub mod Fits
+pub mod Reading

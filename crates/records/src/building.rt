@@ -1,5 +1,5 @@
 //! The map that a job of N and L records describes.
-ghost use Rattle.std.specs.Prelude.{◌≡◌, true, false, MatchBool, MatchOption, slice_index};
+ghost use Rattle.std.specs.Prelude.{◌≡◌, if◌then◌else◌, true, false, Some, None, MatchOption, slice_index};
 ghost use Rattle.map.specs.Calls.{bare, linked_up};
 ghost use Rattle.map.specs.View.{net, nodes};
 ghost use Rattle.records.specs.Build.{Built, joins, opens};
@@ -15,31 +15,27 @@ pub fn opened(bytes: &[u8]) -> Option<Map>
     ensures { MatchOption result (opens (taken bytes.now) ≡ false) (λ m. (opens (taken bytes.now) ≡ true) × (net m ≡ bare (slice_index bytes.now 1))) }
 {
     let record = Record::take_apart(bytes)?;
-    match record.letter as char {
-        'N' if record.second == 0 && record.number == 0 => {
+    match (char::from(record.letter), record.second, record.number) {
+        ('N', 0, 0) => {
             let mut map = Map::new();
-            match map.open(record.first) {
-                Ok(()) => Some(map),
-                Err(_) => None,
-            }
+            map.open(record.first).ok()?;
+            Some(map)
         }
         _ => None,
     }
 }
 
-/// Adds the link of an L record, which may be there already; false, and the same map, if the bytes are
+/// Adds the link of an L record, which may be there already; `None`, and the same map, if the bytes are
 /// no such record (eight bytes, those past the two nodes 0), or if the map refuses the link: a node is
 /// not below its count, or the two are equal.
-pub fn joined(map: &mut Map, bytes: &[u8]) -> bool
-    ensures answer { result ≡ joins (nodes map.old) (taken bytes.now) }
-    ensures after { MatchBool result (net map.new ≡ linked_up (net map.old) (slice_index bytes.now 1) (slice_index bytes.now 2)) (map.new ≡ map.old) }
+pub fn joined(map: &mut Map, bytes: &[u8]) -> Option<()>
+    ensures answer { result ≡ (if joins (nodes map.old) (taken bytes.now) then Some tt else None) }
+    ensures after { MatchOption result (map.new ≡ map.old) (λ _. net map.new ≡ linked_up (net map.old) (slice_index bytes.now 1) (slice_index bytes.now 2)) }
 {
-    let Some(record) = Record::take_apart(bytes) else {
-        return false;
-    };
-    match record.letter as char {
-        'L' if record.number == 0 => map.link(record.first, record.second).is_ok(),
-        _ => false,
+    let record = Record::take_apart(bytes)?;
+    match (char::from(record.letter), record.number) {
+        ('L', 0) => map.link(record.first, record.second).ok(),
+        _ => None,
     }
 }
 
@@ -53,16 +49,13 @@ pub fn build(job: &[u8]) -> Result<Map, Refusal>
 {
     check_length(job)?;
     let mut reader = Reader::new(job);
-    let Some(first) = reader.next() else {
-        return Err(Refusal::Record(reader.index()));
-    };
-    let Some(mut map) = opened(first) else {
-        return Err(Refusal::Record(reader.index()));
-    };
+    let mut map = reader
+        .next()
+        .and_then(opened)
+        .ok_or(Refusal::Record(reader.index()))?;
+    // No `for`: it would hold the reader, which is asked for the index.
     while let Some(record) = reader.next() {
-        if !joined(&mut map, record) {
-            return Err(Refusal::Record(reader.index()));
-        }
+        joined(&mut map, record).ok_or(Refusal::Record(reader.index()))?;
     }
     Ok(map)
 }

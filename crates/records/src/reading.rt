@@ -1,7 +1,6 @@
 //! Handing out the records of a job, one after another.
-ghost use Rattle.std.specs.Prelude.{◌≡◌, ◌+◌, ◌-◌, length, if◌then◌else◌, nat_lt};
-ghost use Rattle.std.specs.Option.{option_map};
-ghost use Rattle.records.specs.Fields.{handed, length_rule, records};
+ghost use Rattle.std.specs.Prelude.{◌≡◌, ◌-◌, ◌≤◌, length};
+ghost use Rattle.records.specs.Fields.{length_rule, records};
 
 use refusal::Refusal;
 
@@ -28,6 +27,8 @@ pub struct Reader<'a> {
     job: &'a [u8],
     /// How many records have been handed out.
     place: usize,
+    // It stands no further than after the last whole record.
+    pub ghost inside: { place ≤ records job.now },
 }
 
 impl<'a> Reader<'a> {
@@ -39,25 +40,30 @@ impl<'a> Reader<'a> {
         Reader { job, place: 0 }
     }
 
-    /// The next record, eight of the job's own bytes, or `None` after the last whole one.
-    pub fn next(&mut self) -> Option<&'a [u8]>
-        ensures value { option_map (λ x. x.now) result ≡ handed self.old.job.now self.old.place }
-        ensures place { self.new.place ≡ (if nat_lt self.old.place (records self.old.job.now) then self.old.place + 1 else self.old.place) }
-        ensures job { self.new.job.now ≡ self.old.job.now }
-    {
-        if self.place >= self.job.len() / 8 {
-            return None;
-        }
-        let start = 8 * self.place;
-        let record = &self.job[start..start + 8];
-        self.place += 1;
-        Some(record)
-    }
-
     /// The index, from 0, of the record handed out last; 0 if none was.
     pub fn index(&self) -> usize
         ensures { result ≡ self.now.place - 1 }
     {
         self.place.saturating_sub(1)
+    }
+}
+
+impl<'a> Iterator for Reader<'a> {
+    ghost use Rattle.std.specs.Iterator.{at_most};
+    ghost use Rattle.records.specs.Reading.{Hands, left};
+
+    type Item = &'a [u8];
+
+    ghost next_gives = { Hands };
+
+    ghost remaining = { λ s. at_most (left s) };
+
+    // The next record, eight of the job's own bytes, or `None` after the last whole one. No clauses but
+    // the trait's: a loop over a lent reader gets its proof from those alone.
+    fn next(&mut self) -> Option<&'a [u8]> {
+        let start = 8 * self.place;
+        let record = self.job.get(start..start + 8)?;
+        self.place += 1;
+        Some(record)
     }
 }

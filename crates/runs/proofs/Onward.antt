@@ -1,5 +1,5 @@
 -- One call more of a list of calls.
-use Rattle.std.proofs.Common.{◌≡◌, ℕ, ◌+◌, ◌<◌, ◌≤◌, List, [], ◌∷◌, ◌++◌, length, get_or, take, drop, sym, ap, ◌∙◌, subst, ap₂, arith}
+use Rattle.std.proofs.Common.{◌≡◌, ℕ, ◌+◌, ◌<◌, ◌≤◌, List, [], ◌∷◌, ◌++◌, length, get_or, take, drop, sym, ap, ◌∙◌, arith}
 use Rattle.std.proofs.lemmas.List.{take_more, take_all}
 use Rattle.map.specs.declared.Map.{Map}
 use Rattle.radio.specs.Ways.{Ways, AirRule}
@@ -20,8 +20,7 @@ module _ {S : Type 0} (w : Ways S) (m : Map) (s₀ : S) where
   pub reached_none : (calls : List Call) (m' : Map) (answers : List Answer) (order : List ℕ) (b : Board) → m' ≡ m → answers ≡ [] → order ≡ [] → b ≡ new_board → Reached calls 0 m' answers order b s₀
   reached_none calls m' answers order b e ea eo eb = record {
     map = e;
-    made = subst (λ (x : List Answer). Calls w m new_board s₀ [] x order b s₀) (sym ea)
-        (subst (λ (x : List ℕ). Calls w m new_board s₀ [] [] x b s₀) (sym eo) (subst (λ (x : Board). Calls w m new_board s₀ [] [] [] x s₀) (sym eb) none));
+    made = rw (ea, eo, eb) none;
   }
 
   pub reached_more : (calls : List Call) (i : ℕ) (d : Call) (m' m'' : Map) (answers answers' : List Answer) (order order' : List ℕ) (b b' : Board) (s s' : S)
@@ -29,28 +28,9 @@ module _ {S : Type 0} (w : Ways S) (m : Map) (s₀ : S) where
       → m'' ≡ m' → b' ≡ nodes_after w m' b s (get_or calls i d) → s' ≡ radio_after w m' b s (get_or calls i d)
       → answers' ≡ answers ++ (answer_of w m' b s (get_or calls i d) ∷ []) → order' ≡ order ++ deciders m'' b b'
       → Reached calls (i + 1) m'' answers' order' b' s'
-  reached_more calls i d m' m'' answers answers' order order' b b' s s' l r em eb es ea eo = record { map = em ∙ r.map; made = made }
-    where
-      eb' : b' ≡ nodes_after w m b s (get_or calls i d)
-      eb' = eb ∙ ap (λ (x : Map). nodes_after w x b s (get_or calls i d)) r.map
-
-      es' : s' ≡ radio_after w m b s (get_or calls i d)
-      es' = es ∙ ap (λ (x : Map). radio_after w x b s (get_or calls i d)) r.map
-
-      ea' : answers' ≡ answers ++ (answer_of w m b s (get_or calls i d) ∷ [])
-      ea' = ea ∙ ap (λ (x : Map). answers ++ (answer_of w x b s (get_or calls i d) ∷ [])) r.map
-
-      eo' : order' ≡ order ++ deciders m b (nodes_after w m b s (get_or calls i d))
-      eo' = eo ∙ ap₂ (λ (x : Map) (y : Board). order ++ deciders x b y) (em ∙ r.map) eb'
-
-      made : Calls w m new_board s₀ (take (i + 1) calls) answers' order' b' s'
-      made =
-          subst (λ (x : List Call). Calls w m new_board s₀ x answers' order' b' s') (sym (take_more calls i d l))
-          (subst (λ (x : List Answer). Calls w m new_board s₀ (take i calls ++ (get_or calls i d ∷ [])) x order' b' s') (sym ea')
-          (subst (λ (x : List ℕ). Calls w m new_board s₀ (take i calls ++ (get_or calls i d ∷ [])) (answers ++ (answer_of w m b s (get_or calls i d) ∷ [])) x b' s') (sym eo')
-          (subst (λ (x : Board). Calls w m new_board s₀ (take i calls ++ (get_or calls i d ∷ [])) (answers ++ (answer_of w m b s (get_or calls i d) ∷ [])) (order ++ deciders m b (nodes_after w m b s (get_or calls i d))) x s') (sym eb')
-          (subst (λ (x : S). Calls w m new_board s₀ (take i calls ++ (get_or calls i d ∷ [])) (answers ++ (answer_of w m b s (get_or calls i d) ∷ [])) (order ++ deciders m b (nodes_after w m b s (get_or calls i d))) (nodes_after w m b s (get_or calls i d)) x) (sym es')
-          (more r.made (get_or calls i d))))))
+  reached_more calls i d m' m'' answers answers' order order' b b' s s' l r em eb es ea eo =
+      let e = r.map in
+      record { map = em ∙ e; made = rw (take_more calls i d l, ea, eo, es, eb, em, e) (more r.made (get_or calls i d)) }
 
   -- all of them
   pub performed : AirRule w → (calls : List Call) (i decided : ℕ) (rig : Rig) (answers answers' : List Answer) (order order' : List ℕ) (s : S) → i ≡ length calls → decided ≤ i
@@ -69,8 +49,7 @@ module _ {S : Type 0} (w : Ways S) (m : Map) (s₀ : S) where
     where
       made : Calls w m new_board s₀ calls (take (length calls) answers') (take decided order') rig.nodes s
       made =
-          subst (λ (k : ℕ). Calls w m new_board s₀ calls (take k answers') (take decided order') rig.nodes s) e
-          (subst (λ (x : List Call). Calls w m new_board s₀ x (take i answers') (take decided order') rig.nodes s) (take_all i calls (let z = e in omega arith)) r.made)
+          rw e at (rw (take_all i calls (omega arith)) at r.made)
 
       run : w.air s₀ ≡ [] → Run w m calls (take (length calls) answers') (take decided order') rig.nodes s
       run air = record { start = s₀; empty = air; made = made }

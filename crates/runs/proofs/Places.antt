@@ -5,7 +5,7 @@ use Rattle.std.proofs.lemmas.List.{drop-drop}
 -- a write at a place leaves what stands past it
 pub drop_past : {A : Type 0} (xs : List A) (i n : ℕ) (v : A) → i < n → drop n (set xs i v) ≡ drop n xs
 drop_past [] i n v l = refl
-drop_past (x ∷ xs) i zero v l = absurd (let z : ⊥ = omega arith in z)
+drop_past (x ∷ xs) i zero v l = absurd (omega arith)
 drop_past (x ∷ xs) zero (suc n) v l = refl
 drop_past (x ∷ xs) (suc i) (suc n) v l = drop_past xs i n v (omega arith)
 

@@ -17,15 +17,16 @@ impl Event {
     pub fn from_record(bytes: &[u8]) -> Option<Event>
         ensures { result ≡ event_of (taken bytes.now) }
     {
-        let record = Record::take_apart(bytes)?;
-        match record.letter as char {
-            'D' if record.second == 0 => Some(Event::Draw(record.first, record.number)),
-            'M'
-                if record.first == 0
-                    && record.second == 0
-                    && record.number >= 1
-                    && record.number <= MOST_DELIVERIES => { Some(Event::Deliver(record.number)) }
-            'R' if record.second == 0 && record.number == 0 => Some(Event::Nudge(record.first)),
+        let Record {
+            letter,
+            first,
+            second,
+            number,
+        } = Record::take_apart(bytes)?;
+        match (char::from(letter), first, second, number) {
+            ('D', node, 0, number) => Some(Event::Draw(node, number)),
+            ('M', 0, 0, most @ 1..=MOST_DELIVERIES) => Some(Event::Deliver(most)),
+            ('R', node, 0, 0) => Some(Event::Nudge(node)),
             _ => None,
         }
     }
@@ -36,8 +37,8 @@ pub(crate) fn seed(bytes: &[u8]) -> Option<u32>
     ensures { result ≡ (if seeds (taken bytes.now) then Some (number_of bytes.now) else None) }
 {
     let record = Record::take_apart(bytes)?;
-    match record.letter as char {
-        'C' if record.first == 0 && record.second == 0 => Some(record.number),
+    match (char::from(record.letter), record.first, record.second) {
+        ('C', 0, 0) => Some(record.number),
         _ => None,
     }
 }

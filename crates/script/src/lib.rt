@@ -10,7 +10,7 @@ pub use events::MOST_DELIVERIES;
 pub use reading::read;
 
 /// What a job has a rig do.
-#[derive(Clone, Copy)]
+#[derive(Clone, Copy, Debug, PartialEq, Eq)]
 pub enum Event {
     /// A draw of this node with this number.
     Draw(u8, u32),

@@ -1,5 +1,5 @@
 //! Judging the records of a job.
-ghost use Rattle.std.specs.Prelude.{◌≡◌, ◌-◌, true, MatchOption};
+ghost use Rattle.std.specs.Prelude.{◌≡◌, ◌-◌, if◌then◌else◌, Some, None, MatchOption, OnSome};
 ghost use Rattle.records.specs.Fits.{FirstUnfit};
 ghost use Rattle.records.specs.Fields.{records, taken};
 ghost use Rattle.script.specs.Script.{Reads, good};
@@ -29,21 +29,21 @@ struct Draft {
 }
 
 impl Draft {
-    // Takes in one more record; false if it is not what its place allows.
-    fn take(&mut self, bytes: &[u8]) -> bool
-        ensures answer { result ≡ fits self.old (taken bytes.now) }
-        ensures after { result ≡ true → Follows self.old bytes.now self.new }
+    // Takes in one more record; `None` if it is not what its place allows.
+    fn take(&mut self, bytes: &[u8]) -> Option<()>
+        ensures answer { result ≡ (if fits self.old (taken bytes.now) then Some tt else None) }
+        ensures after { OnSome result (Follows self.old bytes.now self.new) }
     {
         if Event::from_record(bytes).is_some() {
             self.stage = Stage::Events;
-            return true;
+            return Some(());
         }
         match (self.stage, seed(bytes)) {
-            (Stage::Events, _) => false,
+            (Stage::Events, _) => None,
             (Stage::Second, Some(seed)) => {
                 self.script.seed = Some(seed);
                 self.stage = Stage::Links;
-                true
+                Some(())
             }
             _ => {
                 self.stage = Stage::Links;
@@ -65,10 +65,9 @@ fn judged(reader: &mut Reader) -> Option<Script>
         script: Script { map, seed: None },
         stage: Stage::Second,
     };
+    // No `for`: after a `?` out of one nothing is known of how far the reader came.
     while let Some(record) = reader.next() {
-        if !draft.take(record) {
-            return None;
-        }
+        draft.take(record)?;
     }
     Some(draft.script)
 }
@@ -84,8 +83,5 @@ pub fn read(job: &[u8]) -> Result<Script, Refusal>
 {
     check_length(job)?;
     let mut reader = Reader::new(job);
-    match judged(&mut reader) {
-        Some(script) => Ok(script),
-        None => Err(Refusal::Record(reader.index())),
-    }
+    judged(&mut reader).ok_or(Refusal::Record(reader.index()))
 }

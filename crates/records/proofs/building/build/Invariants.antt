@@ -1,11 +1,6 @@
-use Rattle.std.proofs.Common.{◌-◌}
 use Rattle.map.specs.View.{net}
-use Rattle.records.specs.Fields.{records}
 use Rattle.records.proofs.Fronts.{Reached}
 use Rattle.records.proofs.building.build.Given as goal
 
 abbrev pub invariant-loop-record : goal.invariant-loop-record
-invariant-loop-record l = Reached l.job l.reader.job.now l.reader.place (net l.map)
-
-abbrev pub decreases-loop-record : goal.decreases-loop-record
-decreases-loop-record l = records l.job - l.reader.place
+invariant-loop-record l = Reached l.job l.reader (net l.map)

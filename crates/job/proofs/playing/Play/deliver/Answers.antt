@@ -1,34 +1,18 @@
-use Rattle.std.proofs.Common.{sym, ◌∙◌, arith}
-use Rattle.job.specs.Stands.{stand}
-use Rattle.job.proofs.Turns.{turn_on, turn_off, turns_all}
+use Rattle.std.proofs.Common.{sym, arith}
+use Rattle.job.proofs.Turns.{turned_none, turned_more, turned_off, turned_all}
 use Rattle.job.proofs.playing.Play.deliver.Goals as goal
 
+pub loop-turn-init : goal.loop-turn-init
+loop-turn-init g c = turned_none _ _ _ _
+
+pub call-answer-requires : goal.call-answer-requires
+call-answer-requires g c = let t = c.loop-turn.invariant in omega arith
+
 pub loop-turn-preserved : goal.loop-turn-preserved
-loop-turn-preserved g c =
-    let (same, so_far, few) = c.loop-turn.invariant in
-    let call = c.call-answer.ensures in (
-      call.map ∙ same,
-      turn_on g.R.Radio.ways c.args.self.now.rig.map c.args.times c.loop-turn._turn (stand c.args.self.now (g.R.Radio.state c.args.radio.now)) (stand c.loop-turn.self (g.R.Radio.state c.loop-turn.radio)) so_far
-          c.loop-turn.self.rig.map _ c.call-answer.result c.loop-turn-test.true same call.after call.value (sym c.if-is_nothing.ensures),
-      (let counts = call.counts in omega arith),
-    )
+loop-turn-preserved g c = turned_more _ _ _ _ _ _ _ _ _ _ c.loop-turn.invariant c.loop-turn-test.true c.call-answer.ensures.went c.call-answer.ensures.value (sym c.if-is_nothing.ensures)
 
 pub returns-then-is_nothing : goal.returns-then-is_nothing
-returns-then-is_nothing g c =
-    let (same, so_far, few) = c.loop-turn.invariant in
-    let call = c.call-answer.ensures in
-    record {
-      map = call.map ∙ same;
-      after = turn_off g.R.Radio.ways c.args.self.now.rig.map c.args.times c.loop-turn._turn (stand c.args.self.now (g.R.Radio.state c.args.radio.now)) (stand c.loop-turn.self (g.R.Radio.state c.loop-turn.radio)) so_far
-          c.loop-turn.self.rig.map _ c.call-answer.result c.loop-turn-test.true same call.after call.value (sym c.if-is_nothing.ensures);
-      counts = (let counts = call.counts in let l = c.loop-turn-test.true in omega arith);
-    }
+returns-then-is_nothing g c = turned_off _ _ _ _ _ _ _ _ _ _ c.loop-turn.invariant c.loop-turn-test.true c.call-answer.ensures.went c.call-answer.ensures.value (sym c.if-is_nothing.ensures)
 
 pub returns : goal.returns
-returns g c =
-    let (same, so_far, few) = c.loop-turn.invariant in
-    record {
-      map = same;
-      after = turns_all g.R.Radio.ways c.args.self.now.rig.map c.args.times c.loop-turn._turn (stand c.args.self.now (g.R.Radio.state c.args.radio.now)) (stand c.loop-turn.self (g.R.Radio.state c.loop-turn.radio)) so_far c.loop-turn-test.false;
-      counts = (let l = c.loop-turn.auto._turn-end in omega arith);
-    }
+returns g c = turned_all _ _ _ _ _ _ _ c.loop-turn.invariant c.loop-turn-test.false
