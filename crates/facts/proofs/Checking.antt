@@ -1,7 +1,6 @@
 -- The checker on a path of three nodes, computed.
-use Rattle.std.proofs.Common.{◌≡◌, ℕ, zero, suc, ◌<◌, ◌≤◌, List, [], ◌∷◌, length, get_or, Ok, Err, Result, sym, refl, ap, subst, ap₂, inl, inr, arith}
+use Rattle.std.proofs.Common.{◌≡◌, ℕ, ◌<◌, ◌≤◌, List, [], ◌∷◌, length, get_or, Ok, Err, Result, sym, refl, ap, subst, ap₂, inr, arith}
 use Rattle.marks.specs.Below.{some_below, max_below}
-use Rattle.refusal.specs.Entry.{entry as told}
 use Rattle.refusal.specs.declared.Refusal.{Refusal}
 use Rattle.refusal.proofs.Why.{Why-cases}
 use Rattle.map.specs.View.{Net, net, nodes, contend}
@@ -22,22 +21,10 @@ apart = 1 ∷ 2 ∷ 0 ∷ []
 
 -- the one pair of places with the same slot
 only : (a b : ℕ) → a < b → b < 3 → get_or shared b 0 ≡ get_or shared a 0 → (a ≡ 0) × (b ≡ 2)
-only a zero l h e = absurd (let z : ⊥ = omega arith in z)
-only zero (suc zero) l h e = absurd (let z : ⊥ = omega arith in z)
-only (suc a) (suc zero) l h e = absurd (let z : ⊥ = omega arith in z)
-only zero (suc (suc zero)) l h e = (refl, refl)
-only (suc zero) (suc (suc zero)) l h e = absurd (let z : ⊥ = omega arith in z)
-only (suc (suc a)) (suc (suc zero)) l h e = absurd (let z : ⊥ = omega arith in z)
-only a (suc (suc (suc b))) l h e = absurd (let z : ⊥ = omega arith in z)
+only a b l h e = (grind arith, grind arith)
 
 no_pair : (a b : ℕ) → a < b → b < 3 → get_or apart b 0 ≡ get_or apart a 0 → ⊥
-no_pair a zero l h e = omega arith
-no_pair zero (suc zero) l h e = omega arith
-no_pair (suc a) (suc zero) l h e = omega arith
-no_pair zero (suc (suc zero)) l h e = omega arith
-no_pair (suc zero) (suc (suc zero)) l h e = omega arith
-no_pair (suc (suc a)) (suc (suc zero)) l h e = omega arith
-no_pair a (suc (suc (suc b))) l h e = omega arith
+no_pair a b l h e = grind arith
 
 ends_share : Shares (contend_of (path 3)) shared 0 2
 unfolding some_below
@@ -49,7 +36,7 @@ largest_apart v l = largest_is 3 apart v l
 
 -- a table of three is not too short
 long : (slots : List ℕ) → length slots ≡ 3 → (e : Refusal) → Checked (contend_of (path 3)) 3 slots (Err e) → ⊥
-long slots l e h = elim (Why-cases (told e).number 1 (length slots < 3) ⊥ h) [ inl q ↦ omega arith | inr q ↦ q ]
+long slots l e h = grind (arith, Why-cases)
 
 pub shared_is : (m : Map) (r : Result Verdict Refusal) → net m ≡ path 3 → Checked (contend m) (nodes m) shared r → r ≡ Ok (Clash (0, 2))
 shared_is m r e p = go r (subst (λ (n : Net). Checked (contend_of n) n.size shared r) e p)
@@ -93,7 +80,4 @@ apart_stands m e =
     )
   where
     above : (k : ℕ) → k < 3 → get_or apart k 0 ≤ 2
-    above zero l = omega arith
-    above (suc zero) l = omega arith
-    above (suc (suc zero)) l = omega arith
-    above (suc (suc (suc k))) l = absurd (let z : ⊥ = omega arith in z)
+    above k l = grind arith

@@ -1,4 +1,3 @@
-pub mod Rows
 pub mod Paths
 pub mod Nets
 pub mod Stands

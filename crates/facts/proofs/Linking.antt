@@ -28,10 +28,7 @@ module _ (m : Map) (e : net m ≡ path 5) where
   five = ap (λ (n : Net). n.size) e
 
   inside : (i : ℕ) → i < 3 → ((pair_at pairs i).0 < 5) × ((pair_at pairs i).1 < 5)
-  inside zero l = (omega arith, omega arith)
-  inside (suc zero) l = (omega arith, omega arith)
-  inside (suc (suc zero)) l = (omega arith, omega arith)
-  inside (suc (suc (suc i))) l = absurd (let z : ⊥ = omega arith in z)
+  inside i l = (grind arith, grind arith)
 
   joined : (i : ℕ) → i < 3 → linked m (pair_at pairs i).0 (pair_at pairs i).1 ≡ true
   joined zero l = ap (λ (n : Net). n.links 0 1) e

@@ -1,7 +1,6 @@
 //! Examples of draws and deliveries.
 ghost use Rattle.std.specs.Prelude.{◌≡◌, ◌≤◌, Ok};
 ghost use Rattle.map.specs.View.{net};
-ghost use Rattle.radio.specs.Kinds.{kind_number};
 ghost use Rattle.rig.specs.Board.{new_board, put};
 ghost use Rattle.rig.specs.Calm.{blank};
 ghost use Rattle.rig.specs.Steps.{asking};
@@ -64,20 +63,6 @@ pub(crate) fn three_contend() -> Draws
     }
 }
 
-// A message from node 1 to node 0.
-fn to_node_0(kind: Kind, round: u16, slots: Marks) -> Message
-    ensures { result ≡ record { kind = kind_number kind; sender = 1; receiver = 0; round = round; slot = 0; slots = slots } }
-{
-    Message {
-        kind: kind.into(),
-        sender: 1,
-        receiver: 0,
-        round,
-        slot: 0,
-        slots,
-    }
-}
-
 // Nodes 0 and 1 are linked; node 0 asked, was rejected and asked again.
 fn in_round_two() -> Rig
     ensures map { net result.map ≡ path_of 2 }
@@ -87,7 +72,7 @@ fn in_round_two() -> Rig
     let mut queue = RackQueue::new();
     let _ = rig.draw(0, 1, &mut queue);
     let mut answer = RackQueue::new();
-    answer.put(to_node_0(Kind::Reject, 1, Marks::empty()));
+    answer.put(Message::new(Kind::Reject, 1, 1, 0));
     let _ = rig.deliver(&mut answer);
     let _ = rig.draw(0, 1, &mut answer);
     rig
@@ -100,7 +85,10 @@ pub(crate) fn late_grant() -> Late
     let before = in_round_two();
     let mut rig = before;
     let mut queue = RackQueue::new();
-    queue.put(to_node_0(Kind::Grant, 1, Marks::empty().with(0)));
+    queue.put(Message {
+        slots: Marks::empty().with(0),
+        ..Message::new(Kind::Grant, 1, 1, 0)
+    });
     let answer = rig.deliver(&mut queue);
     let phase = rig.phase(0);
     let round = rig.round(0);

@@ -2,7 +2,6 @@ use Rattle.std.proofs.Common.{[], refl, ap}
 use Rattle.rig.specs.Board.{Board}
 use Rattle.rig.specs.Calm.{blank, at}
 use Rattle.facts.specs.Paths.{path}
-use Rattle.facts.proofs.Rows.{entry, pair}
 use Rattle.facts.proofs.Stands.{Stands, drew, came, told_is}
 use Rattle.facts.proofs.Meeting.{two, draw_0, draw_1, request_1, request_0, reject_0, reject_1, fail_1, fail_0, nothing}
 use Rattle.facts.proofs.rigs.both_request.Goals as goal
@@ -23,14 +22,10 @@ returns c =
     let end = s₉.stands in
     record {
       map = end.map;
-      draws = pair s₁.answer s₂.answer;
-      deliveries = entry s₃.answer (entry s₄.answer (entry s₅.answer (entry s₆.answer (entry s₇.answer (pair s₈.answer s₉.answer)))));
-      phases = pair
-          (told_is end 0 (λ v. v.phase) c.phase.result refl c.phase.ensures)
-          (told_is end 1 (λ v. v.phase) c.phase-2.result refl c.phase-2.ensures);
-      slots = pair
-          (told_is end 0 (λ v. v.slot) c.slot.result refl c.slot.ensures)
-          (told_is end 1 (λ v. v.slot) c.slot-2.result refl c.slot-2.ensures);
+      draws = simp (s₁.answer, s₂.answer);
+      deliveries = simp (s₃.answer, s₄.answer, s₅.answer, s₆.answer, s₇.answer, s₈.answer, s₉.answer);
+      phases = simp (told_is end 0 (λ v. v.phase) c.phase.result refl c.phase.ensures, told_is end 1 (λ v. v.phase) c.phase-2.result refl c.phase-2.ensures);
+      slots = simp (told_is end 0 (λ v. v.slot) c.slot.result refl c.slot.ensures, told_is end 1 (λ v. v.slot) c.slot-2.result refl c.slot-2.ensures);
       first = (ap (λ (x : Board). (at x 0).phase) end.nodes, ap (λ (x : Board). (at x 0).slot) end.nodes);
       other = (ap (λ (x : Board). (at x 1).phase) end.nodes, ap (λ (x : Board). (at x 1).slot) end.nodes);
       empty = end.radio;

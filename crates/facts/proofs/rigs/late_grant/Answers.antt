@@ -1,4 +1,5 @@
 use Rattle.std.proofs.Common.{[], ◌∷◌, sym, refl, ap, ◌∙◌}
+use Rattle.radio.specs.declared.message.Message.{Message}
 use Rattle.rig.specs.Calm.{blank, at}
 use Rattle.rig.specs.Board.{Board}
 use Rattle.rig.specs.Steps.{grant}
@@ -12,7 +13,8 @@ pub returns : goal.returns
 returns c =
     let rig = c.in_round_two-before.result in
     let slots = c.with.result in
-    let posted = put_alone c.new-queue.ensures c.to_node_0.ensures c.put.ensures in
+    let message = ap (λ (x : Message). record { kind = x.kind; sender = x.sender; receiver = x.receiver; round = x.round; slot = x.slot; slots = slots }) c.new.ensures in
+    let posted = put_alone c.new-queue.ensures message c.put.ensures in
     let s₀ : Stands (path 2) (two again blank) (grant slots 1 1 0 ∷ []) rig _ = record { map = c.in_round_two-before.ensures.map; nodes = c.in_round_two-before.ensures.nodes; radio = posted } in
     let s₁ = came s₀ (late rig.map slots) c.deliver-answer.ensures.value c.deliver-answer.ensures.made in
     let end = s₁.stands in
