@@ -1,5 +1,5 @@
+use benches::path;
 use law::{Answer, Call};
-use map::Map;
 use radio::{CoinRadio, RackQueue};
 use refusal::Refusal;
 use rig::Rig;
@@ -7,16 +7,6 @@ use runs::{Performed, audit, perform};
 use schedule::Verdict;
 use std::array;
 use std::test::Fail;
-
-// The path 0–1–2–.. of so many nodes.
-fn path(count: u8) -> Map {
-    let mut map = Map::new();
-    let _ = map.open(count);
-    for a in 1..count {
-        let _ = map.link(a - 1, a);
-    }
-    map
-}
 
 // An answer as a number: what the call answered, or 100 more than its refusal's.
 fn number(answer: Answer) -> u8 {
