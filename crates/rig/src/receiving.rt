@@ -95,9 +95,9 @@ impl Rig {
     /// Refuses `Foreign` if the kind is unknown, the ends are no neighbours, or it is a release of
     /// a slot not 1 to 64; the message has been taken then, and the rig stays.
     pub fn deliver<R: Radio>(&mut self, radio: &mut R) -> Result<Option<Kind>, Refusal>
-        ensures made { Does R.ways self.old self.new (R.ways.after_take (R.state radio.old)) (R.state radio.new) (λ m b. delivered m b (R.ways.taken (R.state radio.old))) }
+        ensures made { let s = R.state radio.old in Does R.ways self.old self.new (R.ways.after_take s) (R.state radio.new) (λ m b. delivered m b (R.ways.taken s)) }
         ensures value { result ≡ (delivered self.old.map self.old.nodes (R.ways.taken (R.state radio.old))).answer }
-        ensures lawful { LawfulDelivery self.old.nodes self.new.nodes (R.ways.after_take (R.state radio.old)) (R.state radio.new) (R.ways.taken (R.state radio.old)) result }
+        ensures lawful { let s = R.state radio.old in LawfulDelivery self.old.nodes self.new.nodes (R.ways.after_take s) (R.state radio.new) (R.ways.taken s) result }
     {
         match radio.take() {
             Some(x) => self.receive(x, radio),

@@ -22,6 +22,7 @@ impl Node {
     }
 
     /// The slots that its grant holds: those heard, and its own if it has one.
+    #[tactic(auto, unfolding(crate::specs::Steps::offered))]
     fn offer(self) -> Marks
         ensures { result ≡ offered self }
     {
