@@ -1,6 +1,6 @@
 -- Contention: the test says what the relation says; it is mutual, and no node contends with itself.
-use Rattle.std.proofs.Common.{◌≡◌, ℕ, ◌<◌, ◌≤◌, Bool, true, false, not, ◌&&◌, ◌||◌, eqb, ◌⊎◌, Decides, sym, refl, ap, ◌∙◌, inl, inr, arith}
-use Rattle.std.proofs.lemmas.Bool.{cases_Bool, eq-eqb}
+use Rattle.std.proofs.Common.{◌≡◌, ℕ, ◌<◌, ◌≤◌, Bool, true, false, not, ◌&&◌, ◌||◌, eqb, Decides, sym, refl, ap, ◌∙◌, inl, inr, arith}
+use Rattle.std.proofs.lemmas.Bool.{eq-eqb, false_from_ne_true}
 use Rattle.std.proofs.lemmas.Bool.Decides.{Decides-eqb, Decides-not, Decides-and, Decides-or, Decides-like, same_from_decides}
 use Rattle.marks.specs.Below.{some_below}
 use Rattle.marks.proofs.Below.{some_decides}
@@ -46,8 +46,4 @@ module _ (m : Map) where
   contend_apart a = ap (λ (x : Bool). not x && (linked m a a || some_below (λ k. linked m a k && linked m k a) (nodes m))) (eq-eqb a a refl)
 
   pub contend_past : (a b : ℕ) → nodes m ≤ b → contend m a b ≡ false
-  contend_past a b l = go (cases_Bool (contend m a b))
-    where
-      go : (contend m a b ≡ true) ⊎ (contend m a b ≡ false) → contend m a b ≡ false
-      go (inl t) = absurd (let k = contend_inside b a (contend_swap a b ((contend_decides a b).0 t)) in let f : ⊥ = omega arith in f)
-      go (inr f) = f
+  contend_past a b l = false_from_ne_true (contend m a b) (λ t. let k = contend_inside b a (contend_swap a b ((contend_decides a b).0 t)) in omega arith)

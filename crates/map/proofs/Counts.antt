@@ -1,6 +1,6 @@
 -- How many neighbours, contenders and links there are.
-use Rattle.std.proofs.Common.{◌≡◌, ℕ, ◌+◌, ◌-◌, ◌*◌, ◌≤◌, Bool, true, false, cond, ◌⊎◌, ap, ◌∙◌, inl, inr, arith}
-use Rattle.std.proofs.lemmas.Bool.{cases_Bool}
+use Rattle.std.proofs.Common.{◌≡◌, ℕ, ◌+◌, ◌-◌, ◌*◌, ◌≤◌, Bool, false, cond, ap, ◌∙◌, arith}
+use Rattle.std.proofs.lemmas.Bool.{false_from_ne_true}
 use Rattle.marks.specs.Below.{sum_below, count_below}
 use Rattle.marks.specs.View.{marked, size}
 use Rattle.marks.specs.declared.Marks.{Marks}
@@ -23,11 +23,7 @@ handshake r swap apart n =
 
 module _ (m : Map) where
   linked_past : (a b : ℕ) → nodes m ≤ b → linked m a b ≡ false
-  linked_past a b l = go (cases_Bool (linked m a b))
-    where
-      go : (linked m a b ≡ true) ⊎ (linked m a b ≡ false) → linked m a b ≡ false
-      go (inl t) = absurd (let k = m.within b a (m.both b a ∙ t) in let f : ⊥ = omega arith in f)
-      go (inr f) = f
+  linked_past a b l = false_from_ne_true (linked m a b) (λ t. let k = m.within b a (m.both b a ∙ t) in omega arith)
 
   -- no node past the count is linked
   pub linked_off : (a b : ℕ) → nodes m ≤ a → linked m a b ≡ false

@@ -1,6 +1,7 @@
 -- Rows of marks: without a link, and with one link more.
 use Rattle.std.proofs.Common.{◌≡◌, ℕ, zero, suc, ◌<◌, Bool, true, false, ◌&&◌, ◌||◌, eqb, ◌≢◌, ◌⊎◌, List, length, set, replicate, sym, refl, ap, ◌∙◌, subst, ap₂, inl, inr, length-set, get_or-set_other, get_or-set_same}
 use mathlib.Core.Path.{fun_ext}
+use Rattle.std.proofs.Math.Bool.{and_comm, or_comm}
 use Rattle.std.proofs.lemmas.Bool.{both_ways, eqb-true, eq-eqb, ne_eqb, cases_eq, cases_Bool, or_cases, or_left, and_parts}
 use Rattle.marks.specs.View.{marked}
 use Rattle.marks.specs.Sets.{none as no-marks}
@@ -33,22 +34,7 @@ bare_net n lk none = ap (λ (f : ℕ → ℕ → Bool). record { size = n; links
 -- the rows a and b changed
 
 ends_swap : (p q r s : Bool) → ((p && q) || (r && s)) ≡ ((s && r) || (q && p))
-ends_swap true true true true = refl
-ends_swap true true true false = refl
-ends_swap true true false true = refl
-ends_swap true true false false = refl
-ends_swap true false true true = refl
-ends_swap true false true false = refl
-ends_swap true false false true = refl
-ends_swap true false false false = refl
-ends_swap false true true true = refl
-ends_swap false true true false = refl
-ends_swap false true false true = refl
-ends_swap false true false false = refl
-ends_swap false false true true = refl
-ends_swap false false true false = refl
-ends_swap false false false true = refl
-ends_swap false false false false = refl
+ends_swap p q r s = ap₂ (λ (x y : Bool). x || y) (and_comm p q) (and_comm r s) ∙ or_comm (q && p) (s && r)
 
 -- a pair whose first end is b, is a, or is neither
 at_b : (h p q r s : Bool) → p ≡ false → r ≡ true → (h || s) ≡ (h || ((p && q) || (r && s)))

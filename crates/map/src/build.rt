@@ -33,7 +33,7 @@ impl Map {
         ensures answer { result ≡ opening count }
         ensures after { Left result (bare count) self.old self.new }
     {
-        if count < 1 || count > Map::LIMIT {
+        if !(1..=Map::LIMIT).contains(&count) {
             return Err(Refusal::Count);
         }
         *self = Map::without_links(count);

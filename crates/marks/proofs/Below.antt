@@ -1,6 +1,7 @@
 -- Laws of the numbers below a bound.
 use Rattle.std.proofs.Common.{◌≡◌, ℕ, zero, suc, ◌+◌, ◌*◌, ◌<◌, ◌≤◌, max, Bool, true, false, cond, ◌||◌, List, [], ◌∷◌, ◌++◌, fold, sum_by, count_by, ◌⊎◌, Decides, refl, ap, ◌∙◌, ap₂, inl, inr, add-one, arith}
 use Rattle.std.specs.List.{range_with_len, list_any}
+use Rattle.std.proofs.Math.Bool.{or_comm, or-false}
 use Rattle.std.proofs.lemmas.Bool.{cases_eq}
 use Rattle.std.proofs.lemmas.Bool.Decides.{Decides-below_or}
 use Rattle.std.proofs.lemmas.List.Folds.{list_any-append}
@@ -109,17 +110,12 @@ unfolding max_below
 fold_max-range f zero = refl
 fold_max-range f (suc n) = fold_range (λ a x. max a (f x)) 0 n ∙ ap (λ (a : ℕ). max a (f n)) (fold_max-range f n)
 
-or_swap : (x y : Bool) → (x || (y || false)) ≡ (y || x)
-or_swap true true = refl
-or_swap true false = refl
-or_swap false true = refl
-or_swap false false = refl
-
 pub list_any-range : (p : ℕ → Bool) (n : ℕ) → list_any p (range_with_len 0 n) ≡ some_below p n
 unfolding some_below
 list_any-range p zero = refl
 list_any-range p (suc n) =
     ap (list_any p) (range_more 0 n n (omega arith))
     ∙ list_any-append p (range_with_len 0 n) (n ∷ [])
-    ∙ or_swap (list_any p (range_with_len 0 n)) (p n)
+    ∙ ap (λ (b : Bool). list_any p (range_with_len 0 n) || b) (or-false (p n))
+    ∙ or_comm (list_any p (range_with_len 0 n)) (p n)
     ∙ ap (λ (b : Bool). p n || b) (list_any-range p n)

@@ -6,7 +6,7 @@ use lib.Bits.{bit_or, bit_and}
 use lib.Count.{ones, ones_cat}
 use mir.Syntax.{w64}
 use Rattle.std.specs.Int.{bit_at, bit_not}
-use Rattle.std.proofs.lemmas.Bool.{eq-eqb, ne_eqb, cases_lt, cases_eq}
+use Rattle.std.proofs.lemmas.Bool.{or_right, and_right, not_from_true, eq-eqb, ne_eqb, cases_lt, cases_eq}
 use Rattle.std.proofs.lemmas.Nat.{or_lt, and_le_l}
 use Rattle.std.proofs.lemmas.Nat.Bits.{bit_at-lt, bit_at-zero, bit_at_or, bit_at_above, bit_at_cat_low, bit_at_cat_high, bit_at_set_same, bit_at_set_other, bit_at_clear_same, bit_at_clear_other}
 use Rattle.marks.specs.Below.{sum_below, count_below}
@@ -60,14 +60,10 @@ pub bit_with : (a i j : ℕ) → i < 64 → bit (bit_or a (1 * 2 ^ i % 2 ^ 64)) 
 unfolding bit
 bit_with a i j h = go (cases_eq j i)
   where
-    or_true : (x : Bool) {y : Bool} → y ≡ true → (x || y) ≡ true
-    or_true true e = refl
-    or_true false e = e
-
     go : (j ≡ i) ⊎ (j ≡ i → ⊥) → bit (bit_or a (1 * 2 ^ i % 2 ^ 64)) j ≡ (bit a j || eqb j i)
     go (inl e) =
         ap (bit (bit_or a (1 * 2 ^ i % 2 ^ 64))) e ∙ at (bit_or a (1 * 2 ^ i % 2 ^ 64)) i 1 (bit_at_set_same w64 a i h)
-        ∙ sym (or_true (bit a j) (eq-eqb j i e))
+        ∙ sym (or_right (bit a j) (eqb j i) (eq-eqb j i e))
     go (inr d) = ap (λ (x : ℕ). eqb x 1) (bit_at_set_other w64 a i h j d) ∙ or_none (bit a j) (ne_eqb j i d)
 
 pub with_lt : (a i : ℕ) → a < 2 ^ 64 → bit_or a (1 * 2 ^ i % 2 ^ 64) < 2 ^ 64
@@ -83,12 +79,8 @@ bit_without a i j h l = go (cases_eq j i) (cases_lt j 64)
     less : ℕ
     less = bit_and a (bit_not w64 (1 * 2 ^ i % 2 ^ 64))
 
-    and_false : (x : Bool) {y : Bool} → y ≡ true → (x && not y) ≡ false
-    and_false true e = ap not e
-    and_false false e = refl
-
     go : (j ≡ i) ⊎ (j ≡ i → ⊥) → (j < 64) ⊎ (64 ≤ j) → bit less j ≡ (bit a j && not (eqb j i))
-    go (inl e) _ = ap (bit less) e ∙ at less i 0 (bit_at_clear_same w64 a i h) ∙ sym (and_false (bit a j) (eq-eqb j i e))
+    go (inl e) _ = ap (bit less) e ∙ at less i 0 (bit_at_clear_same w64 a i h) ∙ sym (and_right (bit a j) (not (eqb j i)) (not_from_true (eqb j i) (eq-eqb j i e)))
     go (inr d) (inl k) = ap (λ (x : ℕ). eqb x 1) (bit_at_clear_other w64 a i h j k d) ∙ and_not_none (bit a j) (ne_eqb j i d)
     go (inr d) (inr k) = bit_past less 64 j (without_lt a (bit_not w64 (1 * 2 ^ i % 2 ^ 64)) l) k ∙ sym (bit_past a 64 j l k) ∙ and_not_none (bit a j) (ne_eqb j i d)
 

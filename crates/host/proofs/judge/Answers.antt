@@ -13,7 +13,7 @@ returns c =
     let most = m.most in
     let long : length w ≡ 64 = c.widened.ensures.len in
     let cut : (c.in_ok-nodes.nodes.now ≡ take (nodes m) s) × (nodes m ≤ length s) = search (rules, tests) in
-    let same : (k : ℕ) → k < nodes m → get_or w k 0 ≡ get_or s k 0 = λ k l.
-    c.widened.ensures.same k (omega arith) ∙ ap (λ (xs : List ℕ). get_or xs k 0) cut.0 ∙ get_or-take (nodes m) s k 0 l in
+    let near : (k : ℕ) → k < nodes m → get_or c.in_ok-nodes.nodes.now k 0 ≡ get_or s k 0 = λ k l. ap (λ (xs : List ℕ). get_or xs k 0) cut.0 ∙ get_or-take (nodes m) s k 0 l in
+    let same : (k : ℕ) → k < nodes m → get_or w k 0 ≡ get_or s k 0 = λ k l. c.widened.ensures.same k (omega arith) ∙ near k l in
     checked_on (contend m) (nodes m) w s same c.check.result (omega arith) cut.1
     (subst (λ (n : Map). Checked (contend n) (nodes n) w c.check.result) c.new.ensures.map c.check.ensures)
