@@ -54,15 +54,9 @@ fn orders_on_a_path(rt: HostRuntime) {
 #[test]
 fn other_maps(rt: HostRuntime) {
     let mut table = [9u16; 7];
-    assert_eq!(rt;
-        told(&star(5), &[4, 0, 2, 1, 3], &mut table),
-        Ok(24)
-    );
+    assert_eq!(rt; told(&star(5), &[4, 0, 2, 1, 3], &mut table), Ok(24));
     assert_eq!(rt; table, [2, 4, 3, 5, 1, 9, 9]);
-    assert_eq!(rt;
-        told(&lone(6), &[5, 3, 1, 0, 2, 4], &mut table),
-        Ok(0)
-    );
+    assert_eq!(rt; told(&lone(6), &[5, 3, 1, 0, 2, 4], &mut table), Ok(0));
     assert_eq!(rt; table, [1, 1, 1, 1, 1, 1, 9]);
     let mut one = [9u16; 2];
     assert_eq!(rt; told(&Map::new(), &[0], &mut one), Ok(0));

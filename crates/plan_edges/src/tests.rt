@@ -52,7 +52,10 @@ fn checks_on_a_path(rt: HostRuntime) {
     assert_eq!(rt; told(&rule, &[1, 2, 1]), Ok(Verdict::Clash((0, 2))));
     assert_eq!(rt; told(&rule, &[1, 2, 0]), Ok(Verdict::Accepted(2)));
     assert_eq!(rt; told(&rule, &[0, 0, 0]), Ok(Verdict::Accepted(0)));
-    assert_eq!(rt; told(&rule, &[65_535, 2, 65_535]), Ok(Verdict::Clash((0, 2))));
+    assert_eq!(rt;
+        told(&rule, &[65_535, 2, 65_535]),
+        Ok(Verdict::Clash((0, 2)))
+    );
     assert_eq!(rt; told(&rule, &[3, 7, 7]), Ok(Verdict::Clash((1, 2))));
     assert_eq!(rt; told(&rule, &[5, 5, 5]), Ok(Verdict::Clash((0, 1))));
     assert_eq!(rt; told(&rule, &[1, 2]), Err(1));
