@@ -49,7 +49,7 @@ fn copy(text: &Text, buffer: &mut [u8])
     ensures { buffer.new ≡ written text.now ++ drop (length (written text.now)) buffer.old }
 {
     let bytes = text.as_bytes();
-    buffer[0..bytes.len()].copy_from_slice(bytes);
+    buffer[..bytes.len()].copy_from_slice(bytes);
 }
 
 /// Runs a job and writes its listing to the beginning of a buffer; answers how many bytes it has.

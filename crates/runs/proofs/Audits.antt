@@ -1,5 +1,5 @@
 -- The checker's verdict on the slots of a rig.
-use Rattle.std.proofs.Common.{◌≡◌, ℕ, List, Ok, Result, ap, ◌∙◌, subst, arith}
+use Rattle.std.proofs.Common.{◌≡◌, ℕ, List, Ok, Result, ap, ◌∙◌, arith}
 use Rattle.marks.proofs.Below.{max_like}
 use Rattle.refusal.specs.declared.Refusal.{Refusal}
 use Rattle.map.specs.View.{nodes, contend}
@@ -34,4 +34,4 @@ audit_is w rule rig s m table verdict e t c = record {
     tells = slots_tell rig table t
 
     here : Checked (contend rig.map) (nodes rig.map) table verdict
-    here = subst (λ (x : Map). Checked (contend x) (nodes x) table verdict) e c
+    here = rw e at c

@@ -1,4 +1,3 @@
 pub mod Audits
 pub mod Deciding
 pub mod Onward
-pub mod Places

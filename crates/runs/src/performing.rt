@@ -12,7 +12,7 @@ use radio::Radio;
 use refusal::Refusal;
 use rig::Rig;
 
-/// What came of a list of calls.
+/// What came of a list of calls. The nodes that decided stand in the caller's table: there is no heap.
 #[derive(Clone, Copy)]
 pub struct Performed {
     /// The rig after the last call.
@@ -31,7 +31,8 @@ fn decider(before: &Rig, after: &Rig) -> Option<u8>
     (0..after.map().count()).find(|&k| old[usize::from(k)] == 0 && new[usize::from(k)] != 0)
 }
 
-// Writes a node at a place, if there is one; the place after it.
+// Writes a node at a place, if there is one; the place after it. A match, since a combinator's closure
+// would have to write to the table.
 fn append(order: &mut [u8], place: usize, node: Option<u8>) -> usize
     requires { place < length order.old }
     ensures first { take result order.new ≡ take place order.old ++ option_to_list node }
