@@ -14,7 +14,8 @@ pub fn read_job<A: Allocator, R: Read + Drop>(alloc: A, input: R) -> io::Result<
     ensures { IfOk result (λ job. IfSome (R.remaining input) (λ bytes. job.items ≡ front bytes)) }
 {
     let mut job = Vec::new(alloc);
-    // One byte more than a job can have is enough to tell that it has too many.
+    // One byte more than a job can have is enough to tell that it has too many. A cast, since no `From`
+    // leads from usize to u64.
     input.take(MOST_BYTES as u64 + 1).read_to_end(&mut job)?;
     Ok(job)
 }

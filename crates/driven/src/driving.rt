@@ -23,6 +23,7 @@ pub(crate) fn driven(map: &Map) -> Outcome
     ensures accepted { (m : ℕ) × Checked (contend map.now) (nodes map.now) result.slots (Ok (Accepted m)) }
     ensures deliveries { result.deliveries ≡ deliveries_of map.now }
 {
+    // A cast: `u8::try_from` would bring an error that never comes.
     let order: [u8; 64] = array::from_fn(|i| i as u8);
     let count = usize::from(map.count());
     let mut slots = [0u16; 64];

@@ -26,6 +26,7 @@ fn describe(map: &Map) -> Text
     let mut text = Text::new();
     push_rows(&mut text, map, &outcome.slots, &planned(map));
     let links = usize::from(map.links());
+    // A cast, since no `From` leads from u32 to usize.
     push_totals(&mut text, &[links, outcome.deliveries as usize], verdict);
     text
 }

@@ -1,5 +1,5 @@
 -- Lines of a listing, one after another; and a listing has space in a text.
-use Rattle.std.proofs.Common.{◌≡◌, ℕ, zero, suc, ◌+◌, ◌*◌, ◌^◌, ◌<◌, ◌≤◌, ltb, List, [], ◌∷◌, ◌++◌, length, Ok, Err, codes, decimal, Result, ap, ◌∙◌, arith, length-append}
+use Rattle.std.proofs.Common.{◌≡◌, ℕ, ◌+◌, ◌*◌, ◌^◌, ◌<◌, ◌≤◌, ltb, List, [], ◌∷◌, ◌++◌, length, Ok, Err, codes, decimal, Result, ap, ◌∙◌, arith, length-append}
 use Rattle.std.proofs.lemmas.Fmt.{length-decimal-le}
 use Rattle.std.proofs.lemmas.Bool.{lt-ltb, cond-true}
 use Rattle.marks.proofs.Below.{max_le}
@@ -7,8 +7,8 @@ use Rattle.refusal.specs.declared.Refusal.{Refusal}
 use Rattle.refusal.specs.declared.Refusal.TheVariants.{Node as NoNode}
 use Rattle.map.specs.View.{nodes}
 use Rattle.map.specs.declared.Map.{Map}
-use Rattle.text.specs.Written.{clip, spaced, line_end}
-use Rattle.text.proofs.Clip.{and_then, none_yet}
+use Rattle.text.specs.Written.{spaced, line_end, row_line}
+use Rattle.text.proofs.Lines.{lines_short}
 use Rattle.rig.specs.declared.Rig.{Rig}
 use Rattle.rig.specs.declared.node.Node.{Node}
 use Rattle.rig.specs.Board.{Board}
@@ -16,7 +16,7 @@ use Rattle.rig.specs.Calm.{at}
 use Rattle.rig.specs.Questions.{told}
 use Rattle.law.specs.Law.{frame}
 use Rattle.job.specs.Play.{Stand}
-use Rattle.job.specs.Listing.{row, rows, listing}
+use Rattle.job.specs.Listing.{columns, rows, listing}
 
 -- line after line
 
@@ -25,14 +25,6 @@ pub told_is : (rig : Rig) (k : ℕ) (f : Node → List ℕ) (xs : List ℕ) → 
 told_is rig k f xs l e =
     let d : ◌≡◌ {A = Result (List ℕ) Refusal} (Ok xs) (Ok (f (at rig.nodes k))) = e ∙ cond-true (ltb k (nodes rig.map)) (Ok (f (at rig.nodes k))) (Err NoNode) (lt-ltb k (nodes rig.map) l) in
     cc
-
-pub rows_none : (b : Board) (s : List ℕ) → length s ≤ 1024 → s ≡ clip (s ++ rows b 0)
-unfolding rows
-rows_none b s l = none_yet s l
-
-pub rows_more : (b : Board) (s t u : List ℕ) (k : ℕ) → t ≡ clip (s ++ rows b k) → u ≡ clip (t ++ row b k) → u ≡ clip (s ++ rows b (k + 1))
-unfolding rows
-rows_more b s t u k p q = and_then s t u (rows b k) (row b k) p q ∙ ap (λ (i : ℕ). clip (s ++ rows b i)) (let e : suc k ≡ k + 1 = omega arith in e)
 
 -- how long the lines are
 
@@ -43,11 +35,17 @@ spaced_one d n ns p w l =
     let e = length-append (32 ∷ decimal n) (spaced ns) in
     omega arith
 
-row_short : (b : Board) (k : ℕ) → k < 64 → (at b k).slot ≤ 64 → (at b k).turn ≤ 64 → (at b k).round ≤ 65535 → length (row b k) ≤ 15
-row_short b k l s t r =
-    let slot = (at b k).slot in
-    let turn = (at b k).turn in
-    let round = (at b k).round in
+-- numbers of nodes that a listing has space for
+pub record Short (b : Board) (k : ℕ) : Type 0 where
+  pub slot : (at b k).slot ≤ 64
+  pub turn : (at b k).turn ≤ 64
+  pub round : (at b k).round ≤ 65535
+
+row_short : (b : Board) (k : ℕ) → k < 64 → Short b k → length (row_line (columns k (at b k))) ≤ 15
+row_short b k l s =
+    let slot = s.slot in
+    let turn = s.turn in
+    let round = s.round in
     let a = length-decimal-le 2 k (omega arith) (omega arith) (omega arith) in
     let x = spaced_one 2 (at b k).slot ((at b k).turn ∷ ((at b k).round ∷ [])) (omega arith) (omega arith) (omega arith) in
     let y = spaced_one 2 (at b k).turn ((at b k).round ∷ []) (omega arith) (omega arith) (omega arith) in
@@ -56,27 +54,11 @@ row_short b k l s t r =
     let d = length-append (spaced ((at b k).slot ∷ ((at b k).turn ∷ ((at b k).round ∷ [])))) (10 ∷ []) in
     omega arith
 
--- numbers of nodes that a listing has space for
-pub record Short (b : Board) (k : ℕ) : Type 0 where
-  pub slot : (at b k).slot ≤ 64
-  pub turn : (at b k).turn ≤ 64
-  pub round : (at b k).round ≤ 65535
-
-rows_short : (b : Board) (k : ℕ) → k ≤ 64 → ((i : ℕ) → i < k → Short b i) → length (rows b k) ≤ 15 * k
-unfolding rows
-rows_short b zero l h = omega arith
-rows_short b (suc k) l h =
-    let i = rows_short b k (omega arith) (λ i q. h i (omega arith)) in
-    let s = h k (omega arith) in
-    let r = row_short b k (omega arith) s.slot s.turn s.round in
-    let e = length-append (rows b k) (row b k) in
-    omega arith
-
 pub listing_short : {S : Type 0} (m : Map) (t : Stand S) → ((k : ℕ) → k < nodes m → Short t.nodes k) → t.came + t.refused ≤ 16777216 → length (listing m t) ≤ 1024
 listing_short m t h few =
     let most = m.most in
     let f : frame m t.nodes ≤ 64 = max_le (λ k. (at t.nodes k).slot) (nodes m) 64 (λ k l. (h k l).slot) in
-    let r = rows_short t.nodes (nodes m) m.most h in
+    let r = lines_short (λ k. row_line (columns k (at t.nodes k))) 15 (nodes m) (λ k l. row_short t.nodes k (omega arith) (h k l)) in
     let x = spaced_one 8 t.came (t.refused ∷ (frame m t.nodes ∷ [])) (omega arith) (omega arith) (omega arith) in
     let y = spaced_one 8 t.refused (frame m t.nodes ∷ []) (omega arith) (omega arith) (omega arith) in
     let z = spaced_one 2 (frame m t.nodes) [] (omega arith) (omega arith) (omega arith) in

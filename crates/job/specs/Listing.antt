@@ -1,5 +1,5 @@
 -- The listing of a job, and what running a job answers.
-use Rattle.std.specs.Prelude.{◌≡◌, ℕ, zero, suc, ◌<◌, ◌≤◌, ◌⊎◌, List, [], ◌∷◌, ◌++◌, length, drop, Some, None, Ok, Err, codes, decimal, Option, Result}
+use Rattle.std.specs.Prelude.{◌≡◌, ℕ, ◌<◌, ◌≤◌, ◌⊎◌, List, [], ◌∷◌, ◌++◌, length, drop, Some, None, Ok, Err, codes, Option, Result}
 use Rattle.refusal.specs.Entry.{entry, Why}
 use Rattle.refusal.specs.declared.Refusal.{Refusal}
 use Rattle.map.specs.View.{nodes, net}
@@ -7,23 +7,23 @@ use Rattle.map.specs.declared.Map.{Map}
 use Rattle.records.specs.Fields.{length_rule, records}
 use Rattle.records.specs.Fits.{AllFit, RefusedFor}
 use Rattle.text.specs.declared.Text.{Text}
-use Rattle.text.specs.Written.{written, line_end, refused_line}
+use Rattle.text.specs.Written.{written, line_end, row_line, lines, refused_line}
 use Rattle.radio.specs.Coin.{CoinState, coin_ways, seeded}
 use Rattle.radio.specs.Queue.{queue_ways}
+use Rattle.rig.specs.declared.node.Node.{Node}
 use Rattle.rig.specs.Board.{Board}
 use Rattle.rig.specs.Calm.{at}
 use Rattle.law.specs.Law.{frame}
 use Rattle.script.specs.Script.{good, described, seed_of, events}
 use Rattle.job.specs.Play.{Stand, fresh, plays, PlaysOut}
 
--- a line: node, slot, turn, round
-abbrev pub row : Board → ℕ → List ℕ
-row b k = decimal k ++ line_end ((at b k).slot ∷ ((at b k).turn ∷ ((at b k).round ∷ [])))
+-- the numbers of a node's line: node, slot, turn, round
+abbrev pub columns : ℕ → Node → List ℕ
+columns k v = k ∷ (v.slot ∷ (v.turn ∷ (v.round ∷ [])))
 
 -- the lines of the nodes below k, by rising number
-unfoldable pub rows : Board → ℕ → List ℕ
-rows b zero = []
-rows b (suc k) = rows b k ++ row b k
+abbrev pub rows : Board → ℕ → List ℕ
+rows b k = lines (λ n. row_line (columns n (at b n))) k
 
 -- a line for each node; then "end", the deliveries that brought a message, the refused events, the largest slot
 abbrev pub listing : {S : Type 0} → Map → Stand S → List ℕ

@@ -1,10 +1,10 @@
 //! The listing of a rig in play.
-ghost use Rattle.std.specs.Prelude.{◌≡◌, ◌<◌, ◌≤◌, [], ◌∷◌, ◌++◌, length};
+ghost use Rattle.std.specs.Prelude.{◌≡◌, ◌≤◌, ◌++◌, length};
 ghost use Rattle.law.specs.Law.{frame};
 ghost use Rattle.map.specs.View.{nodes};
 ghost use Rattle.rig.specs.Questions.{told};
 ghost use Rattle.text.specs.Written.{clip, written};
-ghost use Rattle.job.specs.Listing.{listing, row, rows};
+ghost use Rattle.job.specs.Listing.{columns, listing, rows};
 ghost use Rattle.job.specs.Stands.{shown};
 
 use crate::playing::Play;
@@ -12,26 +12,16 @@ use refusal::Refusal;
 use rig::Rig;
 use text::Text;
 
-// What is told of node `k`: slot, turn and round.
-fn facts(rig: &Rig, k: u8) -> Result<[usize; 3], Refusal>
-    ensures { result ≡ told rig.now k (λ v. v.slot ∷ (v.turn ∷ (v.round ∷ []))) }
+// The numbers of the line of node `k`: the node, its slot, turn and round.
+fn columns(rig: &Rig, k: u8) -> Result<[usize; 4], Refusal>
+    ensures { result ≡ told rig.now k (columns k) }
 {
     Ok([
+        usize::from(k),
         usize::from(rig.slot(k)?),
         usize::from(rig.turn(k)?),
         usize::from(rig.round(k)?),
     ])
-}
-
-// The line of node `k`.
-fn push_row(text: &mut Text, rig: &Rig, k: u8)
-    requires { k < nodes rig.now.map }
-    ensures { written text.new ≡ clip (written text.old ++ row rig.now.nodes k) }
-{
-    if let Ok(numbers) = facts(rig, k) {
-        text.push_number(usize::from(k));
-        text.end_line(&numbers);
-    }
 }
 
 // A line for each node by rising number.
@@ -39,7 +29,9 @@ fn push_rows(text: &mut Text, rig: &Rig)
     ensures { written text.new ≡ clip (written text.old ++ rows rig.now.nodes (nodes rig.now.map)) }
 {
     for k in 0..rig.map().count() {
-        push_row(text, rig, k);
+        if let Ok(numbers) = columns(rig, k) {
+            text.push_row(&numbers);
+        }
     }
 }
 

@@ -16,7 +16,7 @@ pub struct Message {
     pub receiver: u8,
     /// The round that it belongs to.
     pub round: u16,
-    /// The slot of a release.
+    /// The slot of a release; 0 in any other, as the rules have it for fields that are not used.
     pub slot: u8,
     /// The slots of a grant: mark `s - 1` stands for slot `s`.
     pub slots: Marks,

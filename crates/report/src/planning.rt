@@ -18,6 +18,7 @@ pub fn planned(map: &Map) -> [u16; 64]
     ensures past { (k : ℕ) → nodes map.now ≤ k → slice_index result k ≡ 0 }
     ensures accepted { (m : ℕ) × Checked (contend map.now) (nodes map.now) result (Ok (Accepted m)) }
 {
+    // A cast: `u16::try_from` would bring an error that never comes.
     let order: [u16; 64] = array::from_fn(|i| i as u16);
     let count = usize::from(map.count());
     let mut slots = [0u16; 64];

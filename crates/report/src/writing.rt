@@ -34,6 +34,7 @@ fn columns(map: &Map, n: u8, slot: u16) -> [usize; 4]
 pub(crate) fn push_rows(text: &mut Text, map: &Map, slots: &[u16; 64])
     ensures { written text.new ≡ clip (written text.old ++ rows map.now (entries slots.now) (nodes map.now)) }
 {
+    // A cast: there are 64 places, and `u8::try_from` would bring an error that never comes.
     let rows: [[usize; 4]; 64] = array::from_fn(
         |n|
             requires { n < 64 }

@@ -33,6 +33,7 @@ pub enum Lottery {
 #[derive(Clone, Copy)]
 pub struct Rig {
     map: Map,
+    // Nodes are looked up as `nodes[k as usize]`: that widens a byte, and `usize::from` says no more.
     nodes: [Node; 64],
     ghost full: { length nodes ≡ 64 },
     ghost calm: { Calm nodes },

@@ -28,6 +28,7 @@ impl Rig {
         ensures { result ≡ decided_count (nodes self.now.map) self.now.nodes }
     {
         let nodes = &self.nodes[..self.map.count() as usize];
+        // A cast: there are at most 64, and `u8::try_from` would bring an error that never comes.
         nodes.iter().filter(|node| node.slot != 0).count() as u8
     }
 

@@ -44,6 +44,7 @@ pub fn check<C: ClashRule>(rule: &C, slots: &[u16]) -> Result<Verdict, Refusal>
     let mut largest = 0;
     for (a, slot) in table.iter().enumerate() {
         if let Some(b) = partner(rule, table, a) {
+            // Casts: there are at most 512 items, and `u16::try_from` would bring an error that never comes.
             return Ok(Verdict::Clash((a as u16, b as u16)));
         }
         largest = largest.max(*slot);

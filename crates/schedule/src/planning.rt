@@ -21,6 +21,7 @@ fn lowest<C: ClashRule>(rule: &C, slots: &[u16], a: usize) -> u16
     requires few { (length slots.now ≤ C.most) × (C.most ≤ 512) }
     ensures { result ≡ least (C.clash rule.now) (length slots.now) (entries slots.now) a }
 {
+    // A cast: at most 512, and `u16::try_from` would bring an error that never comes.
     let last = C::limit() as u16 + 1;
     (1..last)
         .find(|slot| !held(rule, slots, a, *slot))

@@ -21,7 +21,7 @@ pub enum Event {
 }
 
 /// What a job sets up before its events.
-#[derive(Clone, Copy)]
+#[derive(Clone, Copy, Debug, PartialEq, Eq)]
 pub struct Script {
     /// The map that its N and L records describe.
     pub map: Map,

@@ -7,7 +7,7 @@ use Rattle.refusal.specs.declared.Refusal.{Refusal}
 use Rattle.refusal.specs.declared.Refusal.TheVariants.{Short, Count, Node, SelfLink, Twice, Missing, Unlinked, Settled, Busy, Spent, Quiet, Foreign, Torn, Record}
 use Rattle.refusal.specs.Entry.{entry}
 use Rattle.text.specs.Written.{clip, spaced, line_end, row_line, table, lines, refused_line}
-use Rattle.text.proofs.Clip.{and_then}
+use Rattle.text.proofs.Clip.{and_then, none_yet}
 
 pub number_more : (s t u v ns : List ℕ) (i : ℕ) → i < length ns → t ≡ clip (s ++ spaced (take i ns)) → u ≡ clip (t ++ (32 ∷ [])) → v ≡ clip (u ++ decimal (get_or ns i 0)) → v ≡ clip (s ++ spaced (take (i + 1) ns))
 number_more s t u v ns i l p q r =
@@ -31,6 +31,16 @@ table_lines rows columns (suc k) l each =
     let e : suc k ≡ k + 1 = omega arith in
     ap (λ (n : ℕ). table (take n rows)) e ∙ ap table (take_more rows k [] (omega arith)) ∙ sym (flat_map_more row_line [] (take k rows) (get_or rows k []))
     ∙ ap₂ (λ (x y : List ℕ). x ++ y) (table_lines rows columns k (omega arith) (λ i q. each i (omega arith))) (ap row_line (each k (omega arith)))
+
+-- no lines yet, and one line more
+
+pub lines_none : (line : ℕ → List ℕ) (s : List ℕ) → length s ≤ 1024 → s ≡ clip (s ++ lines line 0)
+unfolding lines
+lines_none line s l = none_yet s l
+
+pub lines_more : (line : ℕ → List ℕ) (s t u : List ℕ) (k : ℕ) → t ≡ clip (s ++ lines line k) → u ≡ clip (t ++ line k) → u ≡ clip (s ++ lines line (k + 1))
+unfolding lines
+lines_more line s t u k p q = and_then s t u (lines line k) (line k) p q ∙ ap (λ (i : ℕ). clip (s ++ lines line i)) (let e : suc k ≡ k + 1 = omega arith in e)
 
 pub lines_like : (f g : ℕ → List ℕ) (k : ℕ) → ((i : ℕ) → i < k → f i ≡ g i) → lines f k ≡ lines g k
 unfolding lines

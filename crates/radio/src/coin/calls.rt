@@ -58,6 +58,7 @@ impl Radio for CoinRadio {
             return None;
         }
         let value = step(self.value);
+        // A cast, since no `From` leads from u32 to usize.
         let place = value as usize % count;
         self.value = value;
         let message = self.air.get(place);

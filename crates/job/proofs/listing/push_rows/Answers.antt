@@ -1,11 +1,13 @@
-use Rattle.std.proofs.Common.{arith, length-take}
-use Rattle.text.specs.Written.{written}
-use Rattle.job.proofs.Rooms.{rows_none, rows_more}
+use Rattle.text.specs.Written.{written, row_line}
+use Rattle.text.proofs.Clip.{none_yet, written_short}
+use Rattle.text.proofs.Lines.{lines_none, lines_more}
+use Rattle.rig.specs.Calm.{at}
+use Rattle.job.specs.Listing.{columns}
+use Rattle.job.proofs.Rooms.{told_is}
 use Rattle.job.proofs.listing.push_rows.Goals as goal
 
 pub loop-k-init : goal.loop-k-init
-loop-k-init c = rows_none c.args.rig.now.nodes (written c.args.text.now) (simp length-take (let w = c.args.text.now.within in omega arith))
+loop-k-init c = lines_none _ (written c.args.text.now) (written_short c.args.text.now)
 
 pub loop-k-preserved : goal.loop-k-preserved
-loop-k-preserved c =
-    rows_more c.args.rig.now.nodes (written c.args.text.now) (written c.loop-k.text) (written c.push_row.new.text) c.loop-k.k c.loop-k.invariant c.push_row.ensures
+loop-k-preserved c = ?
