@@ -17,13 +17,18 @@ digit (suc zero) (suc zero) h k e = refl
 digit (suc (suc x)) y h k e = absurd (let z : ⊥ = omega arith in z)
 digit x (suc (suc y)) h k e = absurd (let z : ⊥ = omega arith in z)
 
--- of every two sets of marks, `==` tells whether they hold the same marks, which is whether they are one value
+-- of every two sets of marks, `==` tells whether they are one value
+pub eq_tells_value : (a b : Marks) → Decides (derived.ghosts.eq a b) (a ≡ b)
+eq_tells_value a b =
+    Decides-like (a.bits == b.bits) (λ e. ap (λ (n : ℕ). record { bits = n }) e) (λ e. ap (λ (m : Marks). m.bits) e) (Decides-eqb a.bits b.bits)
+
+-- and whether they hold the same marks
 pub eq_tells_same : (a b : Marks) → Fits a → Fits b → Same a b (derived.ghosts.eq a b)
 unfolding bit
 eq_tells_same a b h l = record { marks = Decides-like (a.bits == b.bits) (λ e j _. ap (λ (m : Marks). marked m j) e) same value; value = value }
   where
     value : Decides (a.bits == b.bits) (a ≡ b)
-    value = Decides-like (a.bits == b.bits) (λ e. ap (λ (n : ℕ). record { bits = n }) e) (λ e. ap (λ (m : Marks). m.bits) e) (Decides-eqb a.bits b.bits)
+    value = eq_tells_value a b
 
     same : ((j : ℕ) → j < 64 → marked a j ≡ marked b j) → a ≡ b
     same f = ap (λ (n : ℕ). record { bits = n }) (same_from_bits_below 64 a.bits b.bits h l (λ i k. digit _ _ (bit_at-lt a.bits i) (bit_at-lt b.bits i) (f i k)))
