@@ -1,11 +1,8 @@
 -- An overview has space in a text.
-use Rattle.std.proofs.Common.{List, ◌^◌, ◌≡◌, ℕ, zero, suc, ◌+◌, ◌*◌, ◌<◌, ◌≤◌, Bool, [], ◌∷◌, ◌++◌, length, get_or, Ok, codes, refl, sym, ap, ◌∙◌, arith, length-append}
+use Rattle.std.proofs.Common.{List, ◌^◌, ◌≡◌, ℕ, zero, suc, ◌+◌, ◌*◌, ◌<◌, ◌≤◌, Bool, [], ◌∷◌, ◌++◌, length, get_or, Ok, codes, ap, arith, length-append}
 use Rattle.std.proofs.lemmas.List.FromFn.{length-map-range_with_len, get_or-map-range_with_len}
-use Rattle.std.specs.List.{range_with_len, sum_by}
-use Rattle.std.proofs.lemmas.List.FromFn.{sum_by-map-range_with_len_more}
-use mathlib.Core.List.{map-id}
 use Rattle.std.proofs.lemmas.Nat.{mul-le}
-use Rattle.marks.specs.Below.{count_below, sum_below}
+use Rattle.marks.specs.Below.{count_below}
 use Rattle.marks.proofs.Below.{count_le, sum_le, max_le}
 use Rattle.map.specs.View.{nodes, linked, contend, degree, contender_count, pairs, link_count}
 use Rattle.map.specs.declared.Map.{Map}
@@ -31,15 +28,6 @@ module _ (n : ℕ) where
       let e = rising-length in
       let d = rising_at j (omega arith) in
       (omega arith, λ (i, p, q). let c = rising_at i (omega arith) in let z : ⊥ = omega arith in z)
-
--- a sum over the numbers below n
-pub sum_range : (f : ℕ → ℕ) (n : ℕ) → sum_by f (range_with_len 0 n) ≡ sum_below f n
-unfolding sum_below
-sum_range f n = ap (sum_by f) (sym (map-id (range_with_len 0 n))) ∙ go n
-  where
-    go : (k : ℕ) → sum_by f (rising k) ≡ sum_below f k
-    go zero = refl
-    go (suc k) = let e : suc k ≡ k + 1 = omega arith in ap (λ (j : ℕ). sum_by f (rising j)) e ∙ sum_by-map-range_with_len_more f (λ i. i) 0 k k (omega arith) ∙ ap (λ (x : ℕ). x + f k) (go k)
 
 -- a node's slot in a plan by rising number is at most 64
 pub slot_le : (m : Map) (n : ℕ) → n < nodes m → slot_of m n ≤ 64

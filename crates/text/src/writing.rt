@@ -61,6 +61,7 @@ impl Text {
     }
 
     /// Ends a line: each number after one space, then a line feed.
+    #[tactic(auto, using(crate::proofs::Clip::and_then))]
     pub fn end_line(&mut self, numbers: &[usize])
         ensures { written self.new ≡ clip (written self.old ++ line_end numbers.now) }
     {
