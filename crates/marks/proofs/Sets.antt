@@ -1,14 +1,16 @@
 -- Laws of sets of marks: what `collect` holds, and that a set is what its marks are.
-use Rattle.std.proofs.Common.{◌≡◌, ℕ, ◌<◌, ◌≤◌, Bool, true, false, not, ◌&&◌, ◌||◌, eqb, ◌⊎◌, sym, refl, ap, ◌∙◌, inl, inr}
+use Rattle.std.proofs.Common.{◌≡◌, ℕ, ◌<◌, ◌≤◌, Bool, false, not, ◌&&◌, eqb, ◌⊎◌, sym, ap, ◌∙◌, inl, inr}
 use Rattle.std.proofs.lemmas.Bool.{cases_eq, ne_eqb}
 use Rattle.marks.specs.View.{marked, Fits}
 use Rattle.marks.specs.Sets.{collect, none}
+use Rattle.marks.specs.Equal.{eq_tells_same}
 use Rattle.marks.specs.declared.Marks.{Marks}
-use Rattle.marks.proofs.Digits.{bit_zero, bit_past, bit-made, made_lt, same_digits}
+use Rattle.marks.proofs.Digits.{bit_zero, bit_past, bit-made, made_lt, and_not_none}
+pub use Rattle.marks.proofs.Digits.{or_none}
 
 -- two sets with the same marks are equal
 pub same_marks : (a b : Marks) → Fits a → Fits b → ((j : ℕ) → j < 64 → marked a j ≡ marked b j) → a ≡ b
-same_marks a b h l f = ap (λ (n : ℕ). record { bits = n }) (same_digits 64 a.bits b.bits h l f)
+same_marks a b h l f = let s = eq_tells_same a b h l in s.value.0 (s.marks.1 f)
 
 pub marked_past : (m : Marks) (j : ℕ) → Fits m → 64 ≤ j → marked m j ≡ false
 marked_past m j h l = bit_past m.bits 64 j h l
@@ -28,19 +30,10 @@ marked-none j = bit_zero j
 pub is_collect : (m : Marks) (p : ℕ → Bool) → Fits m → ((j : ℕ) → j < 64 → marked m j ≡ p j) → m ≡ collect p
 is_collect m p h f = same_marks m (collect p) h (fits_collect p) (λ j l. f j l ∙ sym (marked-collect p j l))
 
--- a mark added that is none, and one taken away that is not there
-
-pub or_none : (x : Bool) {y : Bool} → y ≡ false → x ≡ (x || y)
-or_none true e = refl
-or_none false e = sym e
-
-pub and_not_none : (p : ℕ → Bool) (i : ℕ) → p i ≡ false → (j : ℕ) → p j ≡ (p j && not (eqb j i))
-and_not_none p i f j = go (cases_eq j i)
+-- taking away a mark that is not there
+pub unmarked : (p : ℕ → Bool) (i : ℕ) → p i ≡ false → (j : ℕ) → p j ≡ (p j && not (eqb j i))
+unmarked p i f j = go (cases_eq j i)
   where
-    keep : (x : Bool) {y : Bool} → y ≡ false → x ≡ (x && not y)
-    keep true e = ap not (sym e)
-    keep false e = refl
-
     go : (j ≡ i) ⊎ (j ≡ i → ⊥) → p j ≡ (p j && not (eqb j i))
     go (inl e) = let z = ap p e ∙ f in z ∙ ap (λ (x : Bool). x && not (eqb j i)) (sym z)
-    go (inr d) = keep (p j) (ne_eqb j i d)
+    go (inr d) = and_not_none (p j) (ne_eqb j i d)

@@ -1,3 +1,4 @@
 pub mod Below
 pub mod View
 pub mod Sets
+pub mod Equal

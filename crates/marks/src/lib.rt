@@ -3,15 +3,12 @@
 //! A mark stands for a node, or for a slot: mark `s - 1` for slot `s`.
 #![tactic(auto)]
 
-ghost use Rattle.std.specs.Prelude.{◌≡◌, ℕ, false, not, ◌&&◌, ◌||◌, ◌==◌, nat_eq, nat_lt};
-ghost use Rattle.marks.specs.Sets.{FirstMissing, Same, added, joined, none, removed};
+ghost use Rattle.std.specs.Prelude.{◌≡◌, ℕ, true, false, not, ◌&&◌, ◌||◌, Decides, ◌==◌, nat_lt};
+ghost use Rattle.marks.specs.Sets.{FirstMissing, added, joined, none, removed};
 ghost use Rattle.marks.specs.View.{marked, size};
-ghost use Rattle.std.specs.Ordering.{on};
-ghost use Rattle.std.specs.Cmp.Rules.{comparing};
-ghost use Rattle.std.proofs.Common.{rules};
 
 /// A set of marks. Two sets with the same marks are equal.
-#[derive(Clone, Copy)]
+#[derive(Clone, Copy, Debug, PartialEq, Eq)]
 pub struct Marks {
     bits: u64,
 }
@@ -54,9 +51,9 @@ impl Marks {
         ensures value { result ≡ removed self i }
         ensures marks { (j : ℕ) → marked result j ≡ (marked self j && not (j == i)) }
     {
-        if self.has(i) {
+        if i < Marks::LIMIT {
             Marks {
-                bits: self.bits ^ (1 << i),
+                bits: self.bits & !(1 << i),
             }
         } else {
             self
@@ -73,6 +70,21 @@ impl Marks {
         }
     }
 
+    /// Whether no mark is in the set.
+    pub fn is_empty(self) -> bool
+        ensures marks { Decides result ((j : ℕ) → marked self j ≡ false) }
+        ensures len { result ≡ (size self == 0) }
+    {
+        self.bits == 0
+    }
+
+    /// Whether each mark of this set is a mark of `other`.
+    pub fn is_subset(self, other: Marks) -> bool
+        ensures { Decides result ((j : ℕ) → marked self j ≡ true → marked other j ≡ true) }
+    {
+        self.union(other) == other
+    }
+
     /// The number of marks in the set.
     pub fn len(self) -> u8
         ensures { result ≡ size self }
@@ -84,25 +96,6 @@ impl Marks {
     pub fn first_missing(self) -> Option<u8>
         ensures { FirstMissing self result }
     {
-        for i in 0..Marks::LIMIT {
-            if !self.has(i) {
-                return Some(i);
-            }
-        }
-        None
-    }
-}
-
-/// Equal sets are those with the same marks.
-impl PartialEq for Marks {
-    ghost eq = { on (λ v. v.bits) nat_eq };
-
-    ghost laws = { Prim.search (comparing, rules) };
-
-    fn eq(&self, other: &Marks) -> bool
-        ensures eq { result ≡ on (λ v. v.bits) nat_eq self.now other.now }
-        ensures same { Same self.now other.now result }
-    {
-        self.bits == other.bits
+        (0..Marks::LIMIT).find(|i| !self.has(*i))
     }
 }

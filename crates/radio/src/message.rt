@@ -6,7 +6,7 @@ use crate::Kind;
 use marks::Marks;
 
 /// A message from one node to another. Fields that its kind does not use are 0.
-#[derive(Clone, Copy)]
+#[derive(Clone, Copy, Debug, PartialEq, Eq)]
 pub struct Message {
     /// The number of its `Kind`. A byte and no `Kind`, since a radio may hold any, and a rig refuses an unknown one.
     pub kind: u8,

@@ -3,7 +3,7 @@ ghost use Rattle.radio.specs.Ways.{Ways};
 ghost use Rattle.std.proofs.Common.{rules};
 
 use marks::Marks;
-use radio::{CoinRadio, Kind, Message, RackQueue, Radio, put_all, step};
+use radio::{CoinRadio, Kind, Message, RackQueue, Radio, UnknownKind, put_all, step};
 
 // A message that is told from others by its round.
 fn numbered(round: u16) -> Message {
@@ -120,4 +120,30 @@ fn a_deaf_radio(rt: HostRuntime) {
     let mut deaf = DeafRadio;
     fill(&mut deaf, 3);
     assert_eq!(rt; drain(&mut deaf), 0);
+}
+
+#[test]
+fn kinds_by_number(rt: HostRuntime) {
+    for (byte, kind) in [
+        (1, Kind::Request),
+        (2, Kind::Grant),
+        (3, Kind::Reject),
+        (4, Kind::Release),
+        (5, Kind::Fail),
+    ] {
+        assert_eq!(rt; u8::from(kind), byte);
+        assert_eq!(rt; Kind::try_from(byte), Ok(kind));
+    }
+    for byte in [0, 6, 255] {
+        assert_eq!(rt; Kind::try_from(byte), Err(UnknownKind(byte)));
+    }
+}
+
+#[test]
+fn a_reply(rt: HostRuntime) {
+    let message = Message::new(Kind::Request, 7, 2, 3);
+    assert_eq!(rt;
+        message.reply(Kind::Reject),
+        Message::new(Kind::Reject, 7, 3, 2)
+    );
 }

@@ -1,5 +1,9 @@
 pub mod Calms
+pub mod Decided
+pub mod Draws
 pub mod Empty
 pub mod Keeps
+pub mod Neighbours
+pub mod Receives
 pub mod Rows
 pub mod Settles

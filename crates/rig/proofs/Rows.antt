@@ -1,5 +1,5 @@
 -- One more of a row of messages.
-use Rattle.std.proofs.Common.{◌≡◌, ℕ, zero, suc, ◌+◌, ◌≤◌, Bool, true, false, cond, [], ◌∷◌, ◌++◌, length, sym, refl, ap, ◌∙◌, append-nil, add-one, arith}
+use Rattle.std.proofs.Common.{◌≡◌, ℕ, zero, suc, ◌+◌, ◌≤◌, Bool, true, false, cond, not, ◌&&◌, List, [], ◌∷◌, ◌++◌, length, sym, refl, ap, ap₂, ◌∙◌, append-nil, add-one, arith}
 use Rattle.std.proofs.lemmas.List.{length_push}
 use Rattle.radio.specs.declared.message.Message.{Message}
 use Rattle.radio.specs.Ways.{Ways, puts}
@@ -9,6 +9,17 @@ use Rattle.rig.specs.Board.{each}
 each_next : {A : Type 0} (p : ℕ → Bool) (f : ℕ → A) (n : ℕ) (v : Bool) → p n ≡ v → each p f (n + 1) ≡ each p f n ++ cond v (f n ∷ []) []
 unfolding each
 each_next p f n v e = ap (each p f) (add-one n) ∙ ap (λ (x : Bool). each p f n ++ cond x (f n ∷ []) []) e
+
+pub and_not : (x y : Bool) → y ≡ false → (x && not y) ≡ x
+and_not true true e = sym e
+and_not true false e = refl
+and_not false y e = refl
+
+-- by a test that tells the same
+pub each_like : (p q : ℕ → Bool) (f : ℕ → Message) (n : ℕ) → ((j : ℕ) → p j ≡ q j) → each p f n ≡ each q f n
+unfolding each
+each_like p q f zero h = refl
+each_like p q f (suc n) h = ap₂ (λ (xs : List Message) (b : Bool). xs ++ cond b (f n ∷ []) []) (each_like p q f n h) (h n)
 
 module _ {S : Type 0} (w : Ways S) (s : S) (p : ℕ → Bool) (f : ℕ → Message) where
   pub each_none : s ≡ puts w s (each p f 0)

@@ -13,6 +13,7 @@ use Rattle.radio.specs.declared.kind.Kind.TheVariants.{Request as RequestKind, G
 use Rattle.radio.specs.declared.message.Message.{Message}
 use Rattle.radio.specs.Kinds.{kind_number}
 use Rattle.schedule.specs.Rand.{first_from}
+use Rattle.rig.specs.declared.delivery.Delivery.{Delivery}
 use Rattle.rig.specs.declared.node.Node.{Node}
 use Rattle.rig.specs.declared.node.Phase.{Phase}
 use Rattle.rig.specs.declared.node.Phase.TheVariants.{Idle, Request, Grant, Release}
@@ -55,6 +56,10 @@ release slot round a b = plain 4 round slot a b
 
 abbrev pub fail : ℕ → ℕ → ℕ → Message
 fail round a b = plain 5 round 0 a b
+
+-- the message, to b
+abbrev pub addressed : Message → ℕ → Message
+addressed x b = record { kind = x.kind; sender = x.sender; receiver = b; round = x.round; slot = x.slot; slots = x.slots }
 
 -- the slots that a grant holds: those heard, and the node's own if it has one
 unfoldable pub offered : Node → Marks
@@ -106,6 +111,10 @@ module _ (m : Map) where
   abbrev pub to_all : ℕ → (ℕ → Message) → List Message
   to_all k f = each (linked m k) f (nodes m)
 
+  -- the neighbours of k that are not marked
+  abbrev pub lacks : Marks → ℕ → ℕ → Bool
+  lacks s k j = linked m k j && not (marked s j)
+
   -- node k gives its round up: it goes idle, and sends fail to all
   abbrev pub gave_up : Board → ℕ → Board
   gave_up b k = put b k (phased (at b k) Idle)
@@ -152,7 +161,7 @@ module _ (m : Map) where
 
   -- the neighbours of k that have not granted
   abbrev pub unmarked : Node → ℕ → ℕ → Bool
-  unmarked v k j = linked m k j && not (marked v.granted j)
+  unmarked v k j = lacks v.granted k j
 
   -- those that a node in request asks again
   abbrev pub asked_again : Board → ℕ → List Message
@@ -176,9 +185,9 @@ module _ (m : Map) where
       (x.kind == 0 || nat_lt 5 x.kind)
       || (not (linked m x.sender x.receiver) || (x.kind == 4 && (x.slot == 0 || nat_lt 64 x.slot)))
 
-  -- the kind of a message that is not foreign, or else Foreign
-  abbrev pub Sorts : Message → Result Kind Refusal → Type 0
-  Sorts x r = MatchResult r (λ kind. (kind_number kind ≡ x.kind) × (foreign x ≡ false)) (λ e. (e ≡ Foreign) × (foreign x ≡ true))
+  -- the message with its kind, if it is not foreign, or else Foreign
+  abbrev pub Accepts : Message → Result Delivery Refusal → Type 0
+  Accepts x r = MatchResult r (λ d. (d.message ≡ x) × (kind_number d.kind ≡ x.kind) × (foreign x ≡ false)) (λ e. (e ≡ Foreign) × (foreign x ≡ true))
 
   -- what a message of this kind makes: these nodes, these messages, and the kind as the answer
   abbrev pub sends : Board → List Message → Kind → After (Option Kind)

@@ -6,6 +6,7 @@ ghost use Rattle.rig.specs.Calm.{Calm};
 
 use map::Map;
 
+mod delivery;
 mod drawing;
 mod node;
 mod opening;
@@ -13,11 +14,12 @@ mod questions;
 mod receiving;
 mod sending;
 mod settling;
+mod stepping;
 
 pub use node::{Node, Phase};
 
 /// What came of a draw that was not refused.
-#[derive(Clone, Copy)]
+#[derive(Clone, Copy, Debug, PartialEq, Eq)]
 pub enum Lottery {
     /// It lost, and nothing changed.
     Lost,

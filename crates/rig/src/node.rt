@@ -2,7 +2,7 @@
 use marks::Marks;
 
 /// What a node is doing.
-#[derive(Clone, Copy)]
+#[derive(Clone, Copy, Debug, PartialEq, Eq)]
 pub enum Phase {
     /// Nothing, and it has no slot.
     Idle,
@@ -15,7 +15,7 @@ pub enum Phase {
 }
 
 /// A node's part in the protocol. All is empty in a new rig.
-#[derive(Clone, Copy)]
+#[derive(Clone, Copy, Debug, PartialEq, Eq)]
 pub struct Node {
     /// What it is doing.
     pub phase: Phase,

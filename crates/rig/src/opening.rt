@@ -27,22 +27,24 @@ fn blank_node() -> Node
     }
 }
 
-fn blank_nodes() -> [Node; 64]
-    ensures { result ≡ new_board }
-{
-    [blank_node(); 64]
-}
-
 impl Rig {
+    // A rig of this map, in which nothing is done.
+    fn over(map: Map) -> Rig
+        ensures map { result.map ≡ map }
+        ensures nodes { result.nodes ≡ new_board }
+    {
+        Rig {
+            map,
+            nodes: [blank_node(); 64],
+        }
+    }
+
     /// The smallest rig: one node, no link, nothing done.
     pub fn new() -> Rig
         ensures map { net result.map ≡ bare 1 }
         ensures nodes { result.nodes ≡ new_board }
     {
-        Rig {
-            map: Map::new(),
-            nodes: blank_nodes(),
-        }
+        Rig::over(Map::new())
     }
 
     /// Fills this rig with a copy of the map, and nothing done.
@@ -50,9 +52,6 @@ impl Rig {
         ensures map { self.new.map ≡ map.now }
         ensures nodes { self.new.nodes ≡ new_board }
     {
-        *self = Rig {
-            map: *map,
-            nodes: blank_nodes(),
-        };
+        *self = Rig::over(*map);
     }
 }

@@ -6,51 +6,53 @@ ghost use Rattle.rig.specs.Made.{Made};
 ghost use Rattle.rig.specs.Steps.{fail_all, gave_up, settled, settled_sent};
 
 use crate::sending::send_to_all;
-use crate::{Phase, Rig};
-use radio::{Kind, Radio};
+use crate::{Node, Phase, Rig};
+use radio::{Kind, Message, Radio};
 
 impl Rig {
     /// Node `k` gives its round up.
     pub(crate) fn give_up<R: Radio>(&mut self, k: u8, radio: &mut R)
-        requires { k < nodes self.old.map }
+        requires { k < 64 }
         ensures { Made R.ways self.old self.new (R.state radio.old) (R.state radio.new) (gave_up self.old.map self.old.nodes k) (fail_all self.old.map self.old.nodes k) }
     {
-        let mut node = self.nodes[k as usize];
-        node.phase = Phase::Idle;
-        self.nodes[k as usize] = node;
-        send_to_all(radio, &self.map, Kind::Fail, node.round, 0, k);
+        let node = self.nodes[k as usize];
+        self.nodes[k as usize] = Node {
+            phase: Phase::Idle,
+            ..node
+        };
+        send_to_all(radio, &self.map, Message::new(Kind::Fail, node.round, k, k));
     }
 
     // How many nodes have decided.
     fn decided_count(&self) -> u8
         ensures { result ≡ decided_count (nodes self.now.map) self.now.nodes }
     {
-        let mut count = 0;
-        for i in 0..self.map.count() {
-            if self.nodes[i as usize].slot != 0 {
-                count += 1;
-            }
-        }
-        count
+        let nodes = &self.nodes[..self.map.count() as usize];
+        nodes.iter().filter(|node| node.slot != 0).count() as u8
     }
 
     /// Node `k` takes the smallest slot that is not taken, or gives up if all 64 are.
     pub(crate) fn settle<R: Radio>(&mut self, k: u8, radio: &mut R)
-        requires { k < nodes self.old.map }
+        requires { k < 64 }
         ensures { Made R.ways self.old self.new (R.state radio.old) (R.state radio.new) (settled self.old.map self.old.nodes k) (settled_sent self.old.map self.old.nodes k) }
     {
-        let mut node = self.nodes[k as usize];
-        match node.taken.first_missing() {
-            Some(mark) => {
-                let turn = self.decided_count() + 1;
-                node.phase = Phase::Release;
-                node.slot = mark + 1;
-                node.turn = turn;
-                node.dated = node.round;
-                self.nodes[k as usize] = node;
-                send_to_all(radio, &self.map, Kind::Release, node.round, mark + 1, k);
-            }
-            None => self.give_up(k, radio),
-        }
+        let node = self.nodes[k as usize];
+        let Some(mark) = node.taken.first_missing() else {
+            return self.give_up(k, radio);
+        };
+        let slot = mark + 1;
+        let turn = self.decided_count() + 1;
+        self.nodes[k as usize] = Node {
+            phase: Phase::Release,
+            slot,
+            turn,
+            dated: node.round,
+            ..node
+        };
+        let release = Message {
+            slot,
+            ..Message::new(Kind::Release, node.round, k, k)
+        };
+        send_to_all(radio, &self.map, release);
     }
 }

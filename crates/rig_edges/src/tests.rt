@@ -19,11 +19,7 @@ fn path(count: u8) -> Rig {
 // What a draw answers: 0 lost, 1 asked, 2 decided; and the number of its refusal, or 0.
 fn drawn(answer: Result<Lottery, Refusal>) -> (u8, u8) {
     match answer {
-        Ok(lottery) => match lottery {
-            Lottery::Lost => (0, 0),
-            Lottery::Asked => (1, 0),
-            Lottery::Decided => (2, 0),
-        },
+        Ok(lottery) => (lottery.into(), 0),
         Err(refusal) => (0, refusal.number()),
     }
 }

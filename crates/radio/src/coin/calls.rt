@@ -8,6 +8,7 @@ use super::CoinRadio;
 use crate::{Message, Radio, air};
 
 /// The generator's next value.
+#[tactic(auto, unfolding(crate::specs::Coin::stepped))]
 pub fn step(value: u32) -> u32
     ensures { result ≡ stepped value }
 {

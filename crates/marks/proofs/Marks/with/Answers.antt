@@ -12,8 +12,8 @@ returns-then-i-lt-LIMIT c =
     let l : i < 64 = omega arith in
     let h : a < 2 ^ 64 = omega arith in
     record {
-      value = is_collect _ _ (with_lt a i 64 l h) (λ j _. bit_with a i 64 j l);
-      marks = λ j. bit_with a i 64 j l ∙ ap (λ (x : Bool). bit a j || (x && eqb j i)) (sym (lt-ltb i 64 l));
+      value = is_collect _ _ (with_lt a i h) (λ j _. bit_with a i j l);
+      marks = λ j. bit_with a i j l ∙ ap (λ (x : Bool). bit a j || (x && eqb j i)) (sym (lt-ltb i 64 l));
     }
 
 pub returns-else-i-lt-LIMIT : goal.returns-else-i-lt-LIMIT

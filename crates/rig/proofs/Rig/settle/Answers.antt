@@ -1,7 +1,11 @@
-use Rattle.std.proofs.Common.{not, eqb, refl, arith}
+use Rattle.std.proofs.Common.{◌+◌, not, eqb, refl, ap, ◌∙◌, arith}
 use Rattle.marks.proofs.Below.{count_le}
-use Rattle.map.specs.View.{nodes}
+use Rattle.map.specs.View.{linked, nodes}
+use Rattle.radio.specs.declared.message.Message.{Message}
+use Rattle.radio.specs.Ways.{puts}
+use Rattle.rig.specs.Board.{each}
 use Rattle.rig.specs.Calm.{at}
+use Rattle.rig.specs.Steps.{addressed}
 use Rattle.rig.proofs.Settles.{lowest_is, lowest-none, settle_some, settle_none}
 use Rattle.rig.proofs.Rig.settle.Goals as goal
 
@@ -10,12 +14,18 @@ overflow_add-turn g c =
     let m = c.args.self.now.map.most in
     omega (arith, count_le (λ k. not (eqb (at c.args.self.now.nodes k).slot 0)) (nodes c.args.self.now.map), c.decided_count-turn.ensures)
 
-pub returns-in-Some : goal.returns-in-Some
-returns-in-Some g c =
-    let (l, e, f) = c.in-Some.ensures in
-    settle_some g.R.Radio.ways c.args.self.now _ _ _ c.args.k c.in-Some.mark c.decided_count-turn.result l
-    (lowest_is (at c.args.self.now.nodes c.args.k).taken c.in-Some.mark l e f) c.decided_count-turn.ensures refl refl c.send_to_all.ensures
+pub returns-in_default : goal.returns-in_default
+returns-in_default g c =
+    settle_none g.R.Radio.ways c.args.self.now _ _ _ c.args.k (lowest-none (at c.args.self.now.nodes c.args.k).taken c.in_default.ensures) c.give_up.ensures
 
-pub returns-in-None : goal.returns-in-None
-returns-in-None g c =
-    settle_none g.R.Radio.ways c.args.self.now _ _ _ c.args.k (lowest-none (at c.args.self.now.nodes c.args.k).taken c.in-None.ensures) c.give_up.ensures
+pub returns : goal.returns
+returns g c =
+    let r = g.R.Radio in
+    let rig = c.args.self.now in
+    let m = rig.map in
+    let i = c.in-Some.mark in
+    let (l, e, f) = c.in-Some.ensures in
+    let slotted : Message → Message = λ x. record { kind = x.kind; sender = x.sender; receiver = x.receiver; round = x.round; slot = i + 1; slots = x.slots } in
+    settle_some r.ways rig _ _ _ c.args.k i c.decided_count-turn.result l
+    (lowest_is (at rig.nodes c.args.k).taken i l e f) c.decided_count-turn.ensures refl refl
+    (c.send_to_all.ensures ∙ ap (λ (x : Message). puts r.ways (r.state c.args.radio.now) (each (linked m x.sender) (addressed (slotted x)) (nodes m))) c.new.ensures)
