@@ -21,8 +21,8 @@ fn path(count: u8) -> Map {
 // An answer as a number: what the call answered, or 100 more than its refusal's.
 fn number(answer: Answer) -> u8 {
     let told = match answer {
-        Answer::Drawn(outcome) => outcome.map(|lottery| lottery.number()),
-        Answer::Delivered(outcome) => outcome.map(|came| came.map_or(0, |kind| kind.into())),
+        Answer::Drawn(outcome) => outcome.map(u8::from),
+        Answer::Delivered(outcome) => outcome.map(|came| came.map_or(0, u8::from)),
         Answer::Nudged(outcome) => outcome,
     };
     told.unwrap_or_else(|refusal| refusal.number().saturating_add(100))
