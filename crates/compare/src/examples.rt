@@ -1,8 +1,7 @@
 //! Worked examples of maps and rigs.
 use crate::score::Score;
 use map::Map;
-use marks::Marks;
-use radio::{Message, RackQueue, Radio};
+use radio::{Kind, Message, RackQueue, Radio};
 use refusal::Refusal;
 use rig::{Lottery, Rig};
 
@@ -33,14 +32,7 @@ pub fn rounds() -> Score {
             matches!(drawn, Ok(Lottery::Asked)) && rig.round(0).is_ok_and(|told| told == round),
         );
         let mut air = RackQueue::new();
-        air.put(Message {
-            kind: 3,
-            sender: 1,
-            receiver: 0,
-            round,
-            slot: 0,
-            slots: Marks::empty(),
-        });
+        air.put(Message::new(Kind::Reject, round, 1, 0));
         let _ = rig.deliver(&mut air);
     }
     let drawn = rig.draw(0, 1, &mut RackQueue::new());

@@ -38,7 +38,7 @@ fn marks_at_the_ends(rt: HostRuntime) {
     assert_eq!(rt; ends.len(), 2);
     assert!(rt; ends.has(0) && ends.has(63) && !ends.has(64) && !ends.has(255));
     assert_eq!(rt; ends.first_missing(), Some(1));
-    assert!(rt; ends.without(0).without(63) == Marks::empty());
+    assert_eq!(rt; ends.without(0).without(63), Marks::empty());
     let all = (0..64).fold(Marks::empty(), |marks, i| marks.with(i));
     assert_eq!(rt; all.first_missing(), None);
     assert_eq!(rt; all.without(63).first_missing(), Some(63));
@@ -82,13 +82,13 @@ fn links_refused_and_repeated(rt: HostRuntime) {
 fn contenders_of_small_maps(rt: HostRuntime) {
     let path = map_of(4, &[(0, 1), (1, 2), (2, 3)]);
     assert_eq!(rt; contender_counts(&path), [2, 3, 3, 2]);
-    assert!(rt; path.contenders(0) == Marks::empty().with(1).with(2));
+    assert_eq!(rt; path.contenders(0), Marks::empty().with(1).with(2));
     let star = map_of(5, &[(0, 1), (0, 2), (0, 3), (0, 4)]);
     assert_eq!(rt; contender_counts(&star), [4, 4, 4, 4]);
     let triangle = map_of(4, &[(0, 1), (1, 2), (2, 0)]);
     assert_eq!(rt; contender_counts(&triangle), [2, 2, 2, 0]);
     assert_eq!(rt; contender_counts(&map_of(4, &[])), [0, 0, 0, 0]);
-    assert!(rt; path.contenders(4) == Marks::empty());
+    assert_eq!(rt; path.contenders(4), Marks::empty());
 }
 
 #[test]
