@@ -15,6 +15,7 @@ pub(crate) fn send_to_rest<R: Radio>(radio: &mut R, map: &Map, message: Message,
     ensures radio { R.state radio.new ≡ puts R.ways (R.state radio.old) (each (lacks map.now but message.sender) (addressed message) (nodes map.now)) }
     ensures value { result ≡ length (each (lacks map.now but message.sender) (addressed message) (nodes map.now)) }
 {
+    // A loop that counts, since a chain's closure that changes the radio leaves nothing known of it.
     let mut sent = 0;
     for receiver in 0..map.count() {
         if map.linked(message.sender, receiver) && !but.has(receiver) {
