@@ -1,9 +1,8 @@
 -- Lines of a listing, one after another; and a listing has space in a text.
-use Rattle.std.proofs.Common.{◌≡◌, ℕ, ◌+◌, ◌*◌, ◌^◌, ◌<◌, ◌≤◌, ltb, List, [], ◌∷◌, ◌++◌, length, Ok, Err, codes, decimal, Result, ap, ◌∙◌, arith, length-append}
+use Rattle.std.proofs.Common.{◌≡◌, ℕ, ◌+◌, ◌^◌, ◌<◌, ◌≤◌, ltb, List, [], ◌∷◌, ◌++◌, length, Ok, Err, codes, decimal, ◌∙◌, arith, length-append}
 use Rattle.std.proofs.lemmas.Fmt.{length-decimal-le}
 use Rattle.std.proofs.lemmas.Bool.{lt-ltb, cond-true}
 use Rattle.marks.proofs.Below.{max_le}
-use Rattle.refusal.specs.declared.Refusal.{Refusal}
 use Rattle.refusal.specs.declared.Refusal.TheVariants.{Node as NoNode}
 use Rattle.map.specs.View.{nodes}
 use Rattle.map.specs.declared.Map.{Map}
@@ -18,13 +17,12 @@ use Rattle.law.specs.Law.{frame}
 use Rattle.job.specs.Play.{Stand}
 use Rattle.job.specs.Listing.{columns, rows, listing}
 
--- line after line
-
 -- what is told of a node
+pub told_ok : (rig : Rig) (k : ℕ) (f : Node → List ℕ) → k < nodes rig.map → told rig k f ≡ Ok (f (at rig.nodes k))
+told_ok rig k f l = cond-true (ltb k (nodes rig.map)) (Ok (f (at rig.nodes k))) (Err NoNode) (lt-ltb k (nodes rig.map) l)
+
 pub told_is : (rig : Rig) (k : ℕ) (f : Node → List ℕ) (xs : List ℕ) → k < nodes rig.map → Ok xs ≡ told rig k f → xs ≡ f (at rig.nodes k)
-told_is rig k f xs l e =
-    let d : ◌≡◌ {A = Result (List ℕ) Refusal} (Ok xs) (Ok (f (at rig.nodes k))) = e ∙ cond-true (ltb k (nodes rig.map)) (Ok (f (at rig.nodes k))) (Err NoNode) (lt-ltb k (nodes rig.map) l) in
-    cc
+told_is rig k f xs l e = let d = e ∙ told_ok rig k f l in cc
 
 -- how long the lines are
 
