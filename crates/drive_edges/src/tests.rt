@@ -1,3 +1,4 @@
+use benches::path;
 use drive::drive;
 use map::Map;
 use refusal::Refusal;
@@ -6,22 +7,13 @@ use std::test::Fail;
 
 // What a drive answers, with a refusal by its number.
 fn told(map: &Map, order: &[u8], slots: &mut [u16]) -> Result<u32, u8> {
-    drive(map, order, slots).map_err(Refusal::number)
+    drive(map, order, slots).map_err(u8::from)
 }
 
 // So many nodes without a link.
 fn lone(count: u8) -> Map {
     let mut map = Map::new();
     let _ = map.open(count);
-    map
-}
-
-// The path 0–1–2–.. of so many nodes.
-fn path(count: u8) -> Map {
-    let mut map = lone(count);
-    for a in 1..count {
-        let _ = map.link(a - 1, a);
-    }
     map
 }
 

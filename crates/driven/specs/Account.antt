@@ -1,26 +1,20 @@
 -- The account of a drive: a line for each node with its slot by the drive and by the planner, and the totals; or the line of a refusal.
-use Rattle.std.specs.Prelude.{◌≡◌, ℕ, zero, suc, ◌*◌, ◌⊎◌, List, [], ◌∷◌, ◌++◌, Ok, Err, codes, decimal, Result}
+use Rattle.std.specs.Prelude.{◌≡◌, ℕ, ◌*◌, ◌⊎◌, List, [], ◌∷◌, ◌++◌, Ok, Err}
 use Rattle.refusal.specs.declared.Refusal.{Refusal}
 use Rattle.map.specs.View.{nodes, link_count}
 use Rattle.map.specs.declared.Map.{Map}
 use Rattle.records.specs.Build.{Built}
-use Rattle.schedule.specs.declared.checking.Verdict.{Verdict}
 use Rattle.schedule.specs.declared.checking.Verdict.TheVariants.{Accepted}
-use Rattle.text.specs.Written.{spaced, line_end, refused_line}
-use Rattle.report.specs.Overview.{slot_of, frame, verdict_text}
+use Rattle.text.specs.Written.{row_line, lines, refused_line}
+use Rattle.report.specs.Overview.{slot_of, frame, totals}
 
--- a line: node, the drive's slot, the planner's slot
-abbrev pub row : ℕ → ℕ → ℕ → List ℕ
-row n driven planned = decimal n ++ line_end (driven ∷ (planned ∷ []))
+-- the numbers of a node's line: node, the drive's slot, the planner's slot
+abbrev pub columns : ℕ → ℕ → ℕ → List ℕ
+columns n driven planned = n ∷ (driven ∷ (planned ∷ []))
 
 -- the lines of the nodes below k, by rising number, with the slots that the drive and the planner give them
-unfoldable pub rows : (ℕ → ℕ) → (ℕ → ℕ) → ℕ → List ℕ
-rows driven planned zero = []
-rows driven planned (suc k) = rows driven planned k ++ row k (driven k) (planned k)
-
--- the last line: links, deliveries that brought a message, and the verdict
-abbrev pub totals : ℕ → ℕ → Result Verdict Refusal → List ℕ
-totals links deliveries verdict = codes "total" ++ (spaced (links ∷ (deliveries ∷ [])) ++ (verdict_text verdict ++ (10 ∷ [])))
+abbrev pub rows : (ℕ → ℕ) → (ℕ → ℕ) → ℕ → List ℕ
+rows driven planned k = lines (λ n. row_line (columns n (driven n) (planned n))) k
 
 -- the slots that the drive in rising order gives the nodes, and those that the planner gives them: both are RAND's
 abbrev pub drive_slot : Map → ℕ → ℕ
@@ -33,9 +27,13 @@ plan_slot m = slot_of m
 abbrev pub deliveries_of : Map → ℕ
 deliveries_of m = 6 * link_count m
 
+-- the numbers of the last line: links, and deliveries that brought a message
+abbrev pub sizes : Map → List ℕ
+sizes m = link_count m ∷ (deliveries_of m ∷ [])
+
 -- the slots of a drive are always accepted
 abbrev pub account : Map → List ℕ
-account m = rows (drive_slot m) (plan_slot m) (nodes m) ++ totals (link_count m) (deliveries_of m) (Ok (Accepted (frame m)))
+account m = rows (drive_slot m) (plan_slot m) (nodes m) ++ totals (sizes m) (Ok (Accepted (frame m)))
 
 -- what is printed of a job: the account of the drive of the map that it describes, or why it is refused
 abbrev pub Reported : List ℕ → List ℕ → Type 0

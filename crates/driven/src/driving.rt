@@ -7,24 +7,13 @@ ghost use Rattle.driven.specs.Account.{deliveries_of, drive_slot};
 
 use drive::drive;
 use map::Map;
+use std::array;
 
 /// What a drive comes to: a slot for each node, and how many deliveries brought a message.
 #[derive(Drop)]
 pub(crate) struct Outcome {
     pub(crate) slots: [u16; 64],
     pub(crate) deliveries: u32,
-}
-
-// The numbers from 0 to 63.
-fn rising() -> [u8; 64]
-    ensures len { length result ≡ 64 }
-    ensures items { (k : ℕ) → k < 64 → slice_index result k ≡ k }
-{
-    let mut order = [0u8; 64];
-    for i in 0..64u8 {
-        order[i as usize] = i;
-    }
-    order
 }
 
 /// Drives all nodes in rising order; with a table for 64 that is never refused.
@@ -34,9 +23,9 @@ pub(crate) fn driven(map: &Map) -> Outcome
     ensures accepted { (m : ℕ) × Checked (contend map.now) (nodes map.now) result.slots (Ok (Accepted m)) }
     ensures deliveries { result.deliveries ≡ deliveries_of map.now }
 {
-    let order = rising();
+    let order: [u8; 64] = array::from_fn(|i| i as u8);
     let count = usize::from(map.count());
     let mut slots = [0u16; 64];
-    let deliveries = drive(map, &order[0..count], &mut slots).unwrap();
+    let deliveries = drive(map, &order[..count], &mut slots).unwrap();
     Outcome { slots, deliveries }
 }

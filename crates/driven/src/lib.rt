@@ -9,11 +9,11 @@ ghost use Rattle.text.specs.Written.{written};
 use driving::driven;
 use map::Map;
 use records::build;
-use report::planned;
+use report::{planned, push_totals};
 use rules::NodeRule;
 use schedule::{ClashRule, check};
 use text::Text;
-use writing::{push_rows, push_totals};
+use writing::push_rows;
 
 mod driving;
 mod writing;
@@ -24,8 +24,9 @@ fn describe(map: &Map) -> Text
     let outcome = driven(map);
     let verdict = check(&NodeRule::new(map), &outcome.slots);
     let mut text = Text::new();
-    push_rows(&mut text, map.count(), &outcome.slots, &planned(map));
-    push_totals(&mut text, map, outcome.deliveries, verdict);
+    push_rows(&mut text, map, &outcome.slots, &planned(map));
+    let links = usize::from(map.links());
+    push_totals(&mut text, &[links, outcome.deliveries as usize], verdict);
     text
 }
 
@@ -39,8 +40,5 @@ fn describe(map: &Map) -> Text
 pub fn report(job: &[u8]) -> Text
     ensures { Reported job.now (written result) }
 {
-    match build(job) {
-        Ok(map) => describe(&map),
-        Err(refusal) => Text::of_refusal(refusal),
-    }
+    build(job).map_or_else(Text::from, |map| describe(&map))
 }

@@ -1,46 +1,23 @@
 //! The lines of a report on a drive.
-ghost use Rattle.std.specs.Prelude.{◌≡◌, ◌≤◌, ◌++◌, length};
-ghost use Rattle.map.specs.View.{link_count};
+ghost use Rattle.std.specs.Prelude.{◌≡◌, ◌<◌, ◌++◌, slice_index};
+ghost use Rattle.map.specs.View.{nodes};
 ghost use Rattle.schedule.specs.Order.{entries};
 ghost use Rattle.text.specs.Written.{clip, written};
-ghost use Rattle.driven.specs.Account.{row, rows, totals};
+ghost use Rattle.driven.specs.Account.{columns, rows};
 
 use map::Map;
-use refusal::Refusal;
-use report::push_verdict;
-use schedule::Verdict;
+use std::array;
 use text::Text;
 
-// The line of node `n`: its number, the drive's slot, the planner's slot.
-fn push_row(text: &mut Text, n: u8, driven: u16, planned: u16)
-    ensures { written text.new ≡ clip (written text.old ++ row n driven planned) }
+/// A line for each node by rising number: the node, the drive's slot, the planner's slot.
+pub(crate) fn push_rows(text: &mut Text, map: &Map, driven: &[u16; 64], planned: &[u16; 64])
+    ensures { written text.new ≡ clip (written text.old ++ rows (entries driven.now) (entries planned.now) (nodes map.now)) }
 {
-    text.push_number(usize::from(n));
-    text.end_line(&[usize::from(driven), usize::from(planned)]);
-}
-
-/// A line for each node by rising number.
-pub(crate) fn push_rows(text: &mut Text, count: u8, driven: &[u16], planned: &[u16])
-    requires { (count ≤ length driven.now) × (count ≤ length planned.now) }
-    ensures { written text.new ≡ clip (written text.old ++ rows (entries driven.now) (entries planned.now) count) }
-{
-    for n in 0..count {
-        push_row(text, n, driven[n as usize], planned[n as usize]);
-    }
-}
-
-/// The last line: the numbers of links and of deliveries, and the verdict.
-pub(crate) fn push_totals(
-    text: &mut Text,
-    map: &Map,
-    deliveries: u32,
-    verdict: Result<Verdict, Refusal>,
-)
-    ensures { written text.new ≡ clip (written text.old ++ totals (link_count map.now) deliveries verdict) }
-{
-    let links = usize::from(map.links());
-    text.push_str("total");
-    text.push_numbers(&[links, deliveries as usize]);
-    push_verdict(text, verdict);
-    text.push(b'\n');
+    let rows: [[usize; 3]; 64] = array::from_fn(
+        |n|
+            requires { n < 64 }
+            ensures { result ≡ columns n (slice_index driven.entry.now n) (slice_index planned.entry.now n) }
+        { [n, usize::from(driven[n]), usize::from(planned[n])] },
+    );
+    text.push_rows(&rows[..usize::from(map.count())]);
 }

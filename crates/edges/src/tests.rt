@@ -7,13 +7,13 @@ use std::test::Fail;
 
 // A refusal's number, or 0 for a call that was accepted.
 fn number_of(answer: Result<(), Refusal>) -> u8 {
-    answer.err().map_or(0, |refusal| refusal.number())
+    answer.err().map_or(0, |refusal| u8::from(refusal))
 }
 
 // A refusal's number and index, or zeros for a job that was built.
 fn verdict(job: &[u8]) -> (u8, usize) {
     build(job).err().map_or((0, 0), |refusal| {
-        (refusal.number(), refusal.index().unwrap_or(0))
+        (u8::from(refusal), refusal.index().unwrap_or(0))
     })
 }
 

@@ -10,7 +10,7 @@ use Rattle.schedule.specs.Sharing.{Shares, FirstPair, Largest, Checked}
 use Rattle.schedule.specs.declared.checking.Verdict.{Verdict}
 use Rattle.schedule.specs.declared.checking.Verdict.TheVariants.{Accepted, Clash}
 use Rattle.schedule.proofs.Accept.{largest_is, largest_same, clear_alone}
-use Rattle.facts.specs.Paths.{path}
+use Rattle.benches.specs.Paths.{path}
 use Rattle.facts.proofs.Nets.{contend_of}
 
 abbrev pub shared : List ℕ

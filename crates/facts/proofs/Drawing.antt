@@ -10,7 +10,7 @@ use Rattle.rig.specs.declared.Lottery.TheVariants.{Lost, Asked, Decided}
 use Rattle.rig.specs.Calm.{blank}
 use Rattle.rig.specs.Board.{new_board, put, each}
 use Rattle.rig.specs.Steps.{After, asking, decided, lowest, drawn}
-use Rattle.facts.specs.Paths.{path}
+use Rattle.benches.specs.Paths.{path}
 use Rattle.facts.specs.Examples.{lottery}
 use Rattle.facts.proofs.Nets.{drawn_of, won_of, contend_of, drawn-of}
 

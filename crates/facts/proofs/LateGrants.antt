@@ -8,7 +8,7 @@ use Rattle.rig.specs.Calm.{blank}
 use Rattle.rig.specs.Board.{each}
 use Rattle.rig.specs.declared.node.Node.{Node}
 use Rattle.rig.specs.Steps.{asking, request, reject, grant, fail}
-use Rattle.facts.specs.Paths.{path}
+use Rattle.benches.specs.Paths.{path}
 use Rattle.facts.proofs.Nets.{drawn_of, delivered_of}
 use Rattle.facts.proofs.Meeting.{two, asked, gave, draws, answers}
 

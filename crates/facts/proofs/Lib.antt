@@ -1,4 +1,3 @@
-pub mod Paths
 pub mod Nets
 pub mod Stands
 pub mod Drawing

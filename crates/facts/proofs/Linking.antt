@@ -8,7 +8,7 @@ use Rattle.map.specs.View.{Net, net, nodes, linked}
 use Rattle.map.specs.declared.Map.{Map}
 use Rattle.rules.specs.Pairs.{pair_at, link_clash}
 use Rattle.rules.specs.Link.{Made, NoNode, NoLink}
-use Rattle.facts.specs.Paths.{path}
+use Rattle.benches.specs.Paths.{path}
 
 abbrev pub pairs : List (ℕ × ℕ)
 pairs = (0, 1) ∷ (2, 3) ∷ (3, 4) ∷ []

@@ -12,7 +12,7 @@ use Rattle.rig.specs.declared.Lottery.TheVariants.{Asked}
 use Rattle.rig.specs.Calm.{blank}
 use Rattle.rig.specs.Board.{Board, each}
 use Rattle.rig.specs.Steps.{After, asking, phased, request, reject, fail}
-use Rattle.facts.specs.Paths.{path}
+use Rattle.benches.specs.Paths.{path}
 use Rattle.facts.proofs.Nets.{drawn_of, delivered_of}
 
 abbrev pub two : Node → Node → Board

@@ -9,7 +9,7 @@ use Rattle.map.specs.View.{Net, net, nodes, contend}
 use Rattle.map.specs.declared.Map.{Map}
 use Rattle.schedule.specs.Rand.{first_from, least, from, rand}
 use Rattle.schedule.specs.Order.{Disordered, Planned}
-use Rattle.facts.specs.Paths.{path}
+use Rattle.benches.specs.Paths.{path}
 use Rattle.facts.proofs.Nets.{contend_of}
 
 abbrev pub order : List ℕ

@@ -16,7 +16,7 @@ use Rattle.law.specs.declared.Call.TheVariants.{Draw, Deliver}
 use Rattle.law.specs.declared.Answer.{Answer}
 use Rattle.law.specs.declared.Answer.TheVariants.{Drawn, Delivered}
 use Rattle.law.specs.Runs.{Calls, none, more, Run, decides, deciders}
-use Rattle.facts.specs.Paths.{path}
+use Rattle.benches.specs.Paths.{path}
 use Rattle.facts.specs.Ruled.{both_calls, both_answers}
 use Rattle.facts.proofs.Nets.{drawn_of, delivered_of, drawn-of, delivered-of}
 use Rattle.facts.proofs.Meeting.{two, asked, gave, draws, answers, draw_0, draw_1, request_1, request_0, reject_0, reject_1, fail_1, fail_0, nothing}

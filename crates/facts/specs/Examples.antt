@@ -12,7 +12,7 @@ use Rattle.rig.specs.Steps.{fail}
 use Rattle.rig.specs.declared.node.Phase.TheVariants.{Idle, Request}
 use Rattle.rig.specs.declared.Lottery.{Lottery}
 use Rattle.rig.specs.declared.Lottery.TheVariants.{Lost, Asked, Decided}
-use Rattle.facts.specs.Paths.{path}
+use Rattle.benches.specs.Paths.{path}
 use Rattle.facts.specs.Ruled.{Ruled}
 use Rattle.facts.specs.declared.outcomes.Lone.{Lone}
 use Rattle.facts.specs.declared.outcomes.Draws.{Draws}

@@ -1,3 +1,2 @@
-pub mod Paths
 pub mod Ruled
 pub mod Examples

@@ -24,7 +24,7 @@ use Rattle.law.specs.declared.Call.TheVariants.{Draw, Deliver}
 use Rattle.law.specs.declared.Answer.{Answer}
 use Rattle.law.specs.declared.Answer.TheVariants.{Drawn, Delivered}
 use Rattle.law.specs.Runs.{Run}
-use Rattle.facts.specs.Paths.{path}
+use Rattle.benches.specs.Paths.{path}
 
 -- the checker answers v on these slots, and nothing else
 abbrev pub Answers : Map → List ℕ → Verdict → Type 0

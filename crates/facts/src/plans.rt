@@ -2,7 +2,7 @@
 ghost use Rattle.std.specs.Prelude.{◌≡◌};
 ghost use Rattle.facts.specs.Examples.{ChecksOfThree, LinksOfFive, PlanOfFour};
 
-use crate::maps::path;
+use benches::path;
 use crate::outcomes::{Checks, Links, Plan};
 use radio::step;
 use refusal::Refusal;

@@ -1,13 +1,13 @@
 //! Examples of draws and deliveries.
-ghost use Rattle.std.specs.Prelude.{◌≡◌, ◌≤◌, Ok};
+ghost use Rattle.std.specs.Prelude.{◌≡◌, Ok, max, min};
 ghost use Rattle.map.specs.View.{net};
 ghost use Rattle.rig.specs.Board.{new_board, put};
 ghost use Rattle.rig.specs.Calm.{blank};
 ghost use Rattle.rig.specs.Steps.{asking};
 ghost use Rattle.facts.specs.Examples.{BothRequest, LateGrant, LoneNode, LotteryOfThree, lottery};
-ghost use Rattle.facts.specs.Paths.{path as path_of};
+ghost use Rattle.benches.specs.Paths.{path as path_of};
 
-use crate::maps::path;
+use benches::path;
 use crate::outcomes::{Both, Draws, Late, Lone};
 use marks::Marks;
 use radio::{Kind, Message, RackQueue, Radio};
@@ -16,8 +16,7 @@ use rig::{Lottery, Rig};
 
 // A new rig on the path 0–1–2–.. of so many nodes.
 fn rig_on_path(count: u8) -> Rig
-    requires { (1 ≤ count) × (count ≤ 64) }
-    ensures map { net result.map ≡ path_of count }
+    ensures map { net result.map ≡ path_of (max 1 (min count 64)) }
     ensures nodes { result.nodes ≡ new_board }
 {
     let mut rig = Rig::new();

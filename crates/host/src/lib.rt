@@ -1,7 +1,7 @@
 //! The checker as a host in C calls it.
 #![tactic(auto)]
 
-ghost use Rattle.std.specs.Prelude.{◌≡◌, ℕ, ◌<◌, ◌≤◌, length, slice_index};
+ghost use Rattle.std.specs.Prelude.{◌≡◌, ℕ, ◌<◌, length, slice_index};
 ghost use Rattle.map.specs.View.{contend, nodes};
 ghost use Rattle.schedule.specs.Sharing.{Checked};
 ghost use Rattle.host.specs.Answer.{Answered, folded};
@@ -11,31 +11,24 @@ use records::build;
 use refusal::Refusal;
 use rules::NodeRule;
 use schedule::{ClashRule, Verdict, check};
+use std::array;
 
 /// What is added to a refusal's number.
 pub const REFUSED: u32 = 65_536;
 
-// The slots of the first `count` nodes, as wide as the checker reads them.
-fn widened(slots: &[u8], count: usize) -> [u16; 64]
-    requires { (count ≤ length slots.now) × (count ≤ 64) }
+// The slots, as wide as the checker reads them, with 0 past their end.
+fn widened(slots: &[u8]) -> [u16; 64]
     ensures len { length result ≡ 64 }
-    ensures same { (k : ℕ) → k < count → slice_index result k ≡ slice_index slots.now k }
+    ensures same { (k : ℕ) → k < 64 → slice_index result k ≡ slice_index slots.now k }
 {
-    let mut wide = [0u16; 64];
-    for i in 0..count {
-        wide[i] = u16::from(slots[i]);
-    }
-    wide
+    array::from_fn(|i| u16::from(slots.get(i).copied().unwrap_or(0)))
 }
 
 fn judge(map: &Map, slots: &[u8]) -> Result<Verdict, Refusal>
     ensures { Checked (contend map.now) (nodes map.now) slots.now result }
 {
-    let count = usize::from(map.count());
-    if slots.len() < count {
-        return Err(Refusal::Short);
-    }
-    check(&NodeRule::new(map), &widened(slots, count))
+    let nodes = slots.get(..usize::from(map.count())).ok_or(Refusal::Short)?;
+    check(&NodeRule::new(map), &widened(nodes))
 }
 
 fn fold(answer: Result<Verdict, Refusal>) -> u32
@@ -44,7 +37,7 @@ fn fold(answer: Result<Verdict, Refusal>) -> u32
     match answer {
         Ok(Verdict::Accepted(_)) => 0,
         Ok(Verdict::Clash((a, b))) => 256 * u32::from(a) + u32::from(b),
-        Err(refusal) => REFUSED + u32::from(refusal.number()),
+        Err(refusal) => REFUSED + u32::from(u8::from(refusal)),
     }
 }
 
@@ -57,8 +50,5 @@ fn fold(answer: Result<Verdict, Refusal>) -> u32
 pub fn slot_check(job: &[u8], slots: &[u8]) -> u32
     ensures { Answered job.now slots.now result }
 {
-    match build(job) {
-        Ok(map) => fold(judge(&map, slots)),
-        Err(refusal) => fold(Err(refusal)),
-    }
+    fold(build(job).and_then(|map| judge(&map, slots)))
 }

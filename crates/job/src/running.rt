@@ -40,7 +40,7 @@ fn listed(job: &[u8]) -> Result<Text, Refusal>
 pub fn print(job: &[u8]) -> Text
     ensures { Printed job.now (written result) }
 {
-    listed(job).unwrap_or_else(Text::of_refusal)
+    listed(job).unwrap_or_else(Text::from)
 }
 
 // Copies a text to the beginning of a buffer.

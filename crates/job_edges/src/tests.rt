@@ -8,7 +8,7 @@ const PATH: [u8; 80] =
 
 // How long the listing is, or the refusal's number and its index.
 fn answer(outcome: Result<usize, Refusal>) -> Result<usize, (u8, Option<usize>)> {
-    outcome.map_err(|refusal| (refusal.number(), refusal.index()))
+    outcome.map_err(|refusal| (u8::from(refusal), refusal.index()))
 }
 
 #[test]

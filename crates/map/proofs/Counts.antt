@@ -1,14 +1,13 @@
 -- How many neighbours, contenders and links there are.
-use Rattle.std.proofs.Common.{◌≡◌, ℕ, ◌+◌, ◌-◌, ◌*◌, ◌≤◌, Bool, true, false, cond, ◌⊎◌, Decides, ap, ◌∙◌, inl, inr, arith}
+use Rattle.std.proofs.Common.{◌≡◌, ℕ, ◌+◌, ◌-◌, ◌*◌, ◌≤◌, Bool, true, false, cond, ◌⊎◌, ap, ◌∙◌, inl, inr, arith}
 use Rattle.std.proofs.lemmas.Bool.{cases_Bool}
-use Rattle.std.proofs.lemmas.Bool.Decides.{same_from_decides}
 use Rattle.marks.specs.Below.{sum_below, count_below}
 use Rattle.marks.specs.View.{marked, size}
 use Rattle.marks.specs.declared.Marks.{Marks}
 use Rattle.marks.proofs.Below.{sum_past, square, count_like, count_le}
-use Rattle.map.specs.View.{nodes, linked, contend, Contend, degree, contender_count, pairs, link_count}
+use Rattle.map.specs.View.{nodes, linked, contend, degree, contender_count, pairs, link_count}
 use Rattle.map.specs.declared.Map.{Map}
-use Rattle.map.proofs.Contends.{contend_decides, contend_past}
+use Rattle.map.proofs.Contends.{contend_past}
 
 -- a set of nodes below the count has as many marks as there are such nodes
 size_below : (s : Marks) (p : ℕ → Bool) (n : ℕ) → n ≤ 64 → ((b : ℕ) → marked s b ≡ p b) → ((b : ℕ) → n ≤ b → p b ≡ false) → size s ≡ count_below p n
@@ -37,9 +36,8 @@ module _ (m : Map) where
   pub size_neighbours : (n : ℕ) (s : Marks) → ((b : ℕ) → marked s b ≡ linked m n b) → size s ≡ degree m n
   size_neighbours n s same = size_below s (linked m n) (nodes m) m.most same (linked_past n)
 
-  pub size_contenders : (n : ℕ) (s : Marks) → ((b : ℕ) → Decides (marked s b) (Contend m n b)) → size s ≡ contender_count m n
-  size_contenders n s same =
-      size_below s (contend m n) (nodes m) m.most (λ b. same_from_decides (marked s b) (contend m n b) (same b) (contend_decides m n b)) (contend_past m n)
+  pub size_contenders : (n : ℕ) (s : Marks) → ((b : ℕ) → marked s b ≡ contend m n b) → size s ≡ contender_count m n
+  size_contenders n s same = size_below s (contend m n) (nodes m) m.most same (contend_past m n)
 
   pub twice_links : sum_below (degree m) (nodes m) ≡ 2 * link_count m
   twice_links = handshake (linked m) m.both m.apart (nodes m)

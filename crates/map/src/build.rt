@@ -56,8 +56,9 @@ impl Map {
             return Err(Refusal::SelfLink);
         }
         let mut rows = self.rows;
-        rows[a as usize] = rows[a as usize].with(b);
-        rows[b as usize] = rows[b as usize].with(a);
+        let (i, j) = (usize::from(a), usize::from(b));
+        rows[i] = rows[i].with(b);
+        rows[j] = rows[j].with(a);
         self.rows = rows;
         Ok(())
     }

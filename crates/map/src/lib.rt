@@ -13,7 +13,7 @@ mod build;
 mod questions;
 
 /// A lawful map. Row `n` holds the neighbours of node `n`.
-#[derive(Clone, Copy)]
+#[derive(Clone, Copy, Debug, PartialEq, Eq)]
 pub struct Map {
     count: u8,
     rows: [Marks; 64],

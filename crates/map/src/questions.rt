@@ -20,7 +20,7 @@ impl Map {
         ensures len { size result ≡ degree self.now n }
     {
         if n < self.count {
-            self.rows[n as usize]
+            self.rows[usize::from(n)]
         } else {
             Marks::empty()
         }
@@ -48,23 +48,19 @@ impl Map {
         ensures apart { (a : ℕ) → Contend self.now a a → ⊥ }
     {
         let near = self.neighbours(n);
-        let mut all = near;
-        for i in 0..self.count {
-            if near.has(i) {
-                all = all.union(self.neighbours(i));
-            }
-        }
-        all.without(n)
+        (0..self.count)
+            .filter(|i| near.has(*i))
+            .fold(near, |all, i| all.union(self.neighbours(i)))
+            .without(n)
     }
 
     /// The number of links; a linked pair counts once.
     pub fn links(&self) -> u16
         ensures { result ≡ link_count self.now }
     {
-        let mut ends = 0;
-        for n in 0..self.count {
-            ends += u16::from(self.degree(n));
-        }
+        let ends = (0..self.count)
+            .map(|n| u16::from(self.degree(n)))
+            .sum::<u16>();
         ends / 2
     }
 }

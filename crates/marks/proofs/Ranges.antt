@@ -1,6 +1,6 @@
 -- What a chain over `0..n` answers, in the words of numbers below a bound.
 -- Each lemma takes what the call ensures under `ran`, that the range is 0..n, and what the closure answers.
-use Rattle.std.proofs.Common.{◌≡◌, ℕ, ◌+◌, ◌<◌, max, Bool, true, false, List, [], ◌∷◌, map, fold, length, get_or, MatchBool, Option, unwrap_or, Decides, sym, refl, ap, ◌∙◌, arith}
+use Rattle.std.proofs.Common.{◌≡◌, ℕ, ◌+◌, ◌<◌, max, Bool, true, false, List, [], ◌∷◌, ◌++◌, map, filter, fold, length, get_or, MatchBool, Option, unwrap_or, Decides, sym, refl, ap, ◌∙◌, arith}
 use denote.Param.Members.{Mut}
 use denote.Ref.{Bor}
 use Rattle.std.specs.declared.ops.Range.{Range}
@@ -17,6 +17,7 @@ use Rattle.std.proofs.lemmas.Iterator.{YieldsList, YieldsList-from_range, Yields
 use Rattle.std.proofs.lemmas.Iterator.Consumers.{count_from_yields_List, sum_by_from_yields_List, fits_by_from_yields_list, YieldsList-from_filter, fold_from_yields_List, max_from_yields_List}
 use Rattle.std.proofs.lemmas.Iterator.Adapters.{option_map_id}
 use Rattle.std.proofs.lemmas.Bool.{both_ways}
+use Rattle.std.proofs.lemmas.Fn.{fold_over}
 use Rattle.std.proofs.lemmas.List.FromFn.{length-range_with_len, get_or-range_with_len}
 use Rattle.std.proofs.lemmas.List.Folds.{list_any_at, list_any_none, fold-map}
 use Rattle.std.proofs.lemmas.List.Sums.{length-filter}
@@ -92,3 +93,10 @@ max_of_range {s} h n r ran e j is = ap (λ (o : Option ℕ). unwrap_or o 0) (sym
 pub fold_of_range : {F C : Type 0} {g : Mut F (C × (ℕ × Unit {0})) C} {s : Range ℕ} {f : F} (h : C → ℕ → C) (n : ℕ) (init r : C) → FoldsItems nat_range_steps g s f init r → s ≡ record { start = 0; end = n }
     → ((a : C) (x : ℕ) (b : C) (q : F) → Called g f (a, (x, tt)) b q → (q ≡ f) × (b ≡ h a x)) → r ≡ fold h init (range_with_len 0 n)
 fold_of_range {g} h n init r ran e is = fold_from_yields_List g h init r ran (below n e) is
+
+-- `filter` and `fold`, by what each step keeps of the numbers so far
+pub fold_of_filtered : {F H C : Type 0} {g : Mut F (Bor ℕ × Unit {0}) Bool} {k : Mut H (C × (ℕ × Unit {0})) C} {s : Filter (Range ℕ) F} {f : F} {h : H} (p : ℕ → Bool) (n : ℕ) (J : List ℕ → C → Type 0) (init r : C)
+    → FoldsItems (filter_steps nat_range_steps g) k s h init r → filter_source s ≡ record { start = 0; end = n } → filter_callee s ≡ f → ((x : ℕ) (b : Bool) (q : F) → CalledAt g f x b q → (q ≡ f) × (b ≡ p x))
+    → ((ys : List ℕ) (a : C) (x : ℕ) (b : C) (q : H) → J ys a → Called k h (a, (x, tt)) b q → J (ys ++ (x ∷ [])) b × (q ≡ h)) → J [] init → J (filter p (range_with_len 0 n)) r
+fold_of_filtered {g} {k} {s} {h} p n J init r ran e j is step first =
+    fold_over (filter_steps nat_range_steps g) (λ x. x) k J h step s (filter p (range_with_len 0 n)) init r (YieldsList-from_filter g p (below n e) j is).runs first ran

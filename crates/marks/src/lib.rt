@@ -89,6 +89,7 @@ impl Marks {
     pub fn len(self) -> u8
         ensures { result ≡ size self }
     {
+        // At most 64, so the cast loses nothing; try_from would bring a case that never comes.
         self.bits.count_ones() as u8
     }
 

@@ -1,3 +1,4 @@
+use benches::path;
 use host::slot_check;
 use map::Map;
 use refusal::Refusal;
@@ -8,22 +9,12 @@ use std::test::Fail;
 
 // What the checker answers, with a refusal by its number.
 fn told<C: ClashRule>(rule: &C, slots: &[u16]) -> Result<Verdict, u8> {
-    check_slots(rule, slots).map_err(Refusal::number)
+    check_slots(rule, slots).map_err(u8::from)
 }
 
 // What the planner answers, with a refusal by its number.
 fn planned<C: ClashRule>(rule: &C, order: &[u16], slots: &mut [u16]) -> Result<(), u8> {
-    plan(rule, order, slots).map_err(Refusal::number)
-}
-
-// The path 0–1–2–.. of so many nodes.
-fn path(count: u8) -> Map {
-    let mut map = Map::new();
-    let _ = map.open(count);
-    for a in 1..count {
-        let _ = map.link(a - 1, a);
-    }
-    map
+    plan(rule, order, slots).map_err(u8::from)
 }
 
 #[test]
@@ -101,7 +92,7 @@ fn links_on_a_path(rt: HostRuntime) -> Result<(), Fail> {
 
 // The number by which a list of pairs is refused, if it is.
 fn refused_by<'a>(map: &'a Map, pairs: &'a [(u8, u8)]) -> Option<u8> {
-    LinkRule::new(map, pairs).err().map(Refusal::number)
+    LinkRule::new(map, pairs).err().map(u8::from)
 }
 
 #[test]

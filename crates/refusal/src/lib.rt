@@ -1,11 +1,14 @@
 //! Why a call of the kit says no: one enum, with a number and a word for each case.
 #![tactic(auto)]
 
-ghost use Rattle.std.specs.Prelude.{◌≡◌};
+ghost use Rattle.std.specs.Prelude.{◌≡◌, Some};
 ghost use Rattle.refusal.specs.Entry.{entry};
 
+use std::error::Error;
+use std::fmt;
+
 /// A refusal. The comment at each case says when it comes.
-#[derive(Clone, Copy)]
+#[derive(Clone, Copy, Debug, PartialEq, Eq)]
 pub enum Refusal {
     /// A table or a buffer is shorter than needed.
     Short,
@@ -38,28 +41,6 @@ pub enum Refusal {
 }
 
 impl Refusal {
-    /// The number by which the rules list the refusal.
-    pub fn number(self) -> u8
-        ensures { result ≡ (entry self).number }
-    {
-        match self {
-            Refusal::Short => 1,
-            Refusal::Count => 2,
-            Refusal::Node => 3,
-            Refusal::SelfLink => 4,
-            Refusal::Twice => 5,
-            Refusal::Missing => 6,
-            Refusal::Unlinked => 7,
-            Refusal::Settled => 8,
-            Refusal::Busy => 9,
-            Refusal::Spent => 10,
-            Refusal::Quiet => 11,
-            Refusal::Foreign => 12,
-            Refusal::Torn => 13,
-            Refusal::Record(_) => 14,
-        }
-    }
-
     /// The word by which the rules list the refusal.
     pub fn word(self) -> &'static str
         ensures { result.now ≡ (entry self).word }
@@ -92,3 +73,38 @@ impl Refusal {
         }
     }
 }
+
+/// The number by which the rules list the refusal.
+impl From<Refusal> for u8 {
+    ghost from_gives = { λ refusal number. number ≡ (entry refusal).number };
+
+    fn from(refusal: Refusal) -> u8 {
+        match refusal {
+            Refusal::Short => 1,
+            Refusal::Count => 2,
+            Refusal::Node => 3,
+            Refusal::SelfLink => 4,
+            Refusal::Twice => 5,
+            Refusal::Missing => 6,
+            Refusal::Unlinked => 7,
+            Refusal::Settled => 8,
+            Refusal::Busy => 9,
+            Refusal::Spent => 10,
+            Refusal::Quiet => 11,
+            Refusal::Foreign => 12,
+            Refusal::Torn => 13,
+            Refusal::Record(_) => 14,
+        }
+    }
+}
+
+/// Prints the word of the refusal.
+impl fmt::Display for Refusal {
+    ghost output = { λ refusal. Some (entry refusal).word };
+
+    fn fmt<W: fmt::Write>(&self, f: &mut fmt::Formatter<W>) -> fmt::Result {
+        f.write_str(self.word())
+    }
+}
+
+impl Error for Refusal {}

@@ -1,19 +1,18 @@
 -- An overview has space in a text.
-use Rattle.std.proofs.Common.{◌≡◌, ℕ, zero, suc, ◌+◌, ◌*◌, ◌<◌, ◌≤◌, Bool, List, [], ◌∷◌, ◌++◌, length, get_or, Ok, codes, decimal, refl, ap, ◌∙◌, ap₂, arith, length-append}
+use Rattle.std.proofs.Common.{List, ◌^◌, ◌≡◌, ℕ, zero, suc, ◌+◌, ◌*◌, ◌<◌, ◌≤◌, Bool, [], ◌∷◌, ◌++◌, length, get_or, Ok, codes, ap, arith, length-append}
 use Rattle.std.proofs.lemmas.List.FromFn.{length-map-range_with_len, get_or-map-range_with_len}
-use Rattle.std.proofs.lemmas.Fmt.{length-decimal-le}
+use Rattle.std.proofs.lemmas.Nat.{mul-le}
 use Rattle.marks.specs.Below.{count_below}
 use Rattle.marks.proofs.Below.{count_le, sum_le, max_le}
 use Rattle.map.specs.View.{nodes, linked, contend, degree, contender_count, pairs, link_count}
 use Rattle.map.specs.declared.Map.{Map}
 use Rattle.map.proofs.Counts.{degree_le, contenders_le}
-use Rattle.text.specs.Written.{spaced, line_end, clip}
-use Rattle.text.proofs.Clip.{and_then, none_yet}
-use Rattle.text.proofs.Lines.{one, three, spaced_short, line_end_short}
+use Rattle.text.specs.Written.{spaced, row_line}
+use Rattle.text.proofs.Lines.{one, three, spaced_short, row_short, lines_short}
 use Rattle.schedule.specs.Rand.{Fine}
 use Rattle.schedule.specs.declared.checking.Verdict.TheVariants.{Accepted}
 use Rattle.schedule.proofs.Rand.{rand_is, rand_low}
-use Rattle.report.specs.Overview.{rising, slot_of, frame, contending_pairs, row, rows, verdict_text, totals, overview}
+use Rattle.report.specs.Overview.{rising, slot_of, frame, contending_pairs, columns, rows, verdict_text, sizes, totals, overview}
 
 -- the nodes in rising order
 
@@ -46,6 +45,18 @@ accepted_short v l =
     let s = length-append (spaced (v ∷ [])) (codes " accepted") in
     omega arith
 
+-- a last line of at most three numbers of at most k digits
+pub totals_short : (k : ℕ) (numbers : List ℕ) (largest : ℕ) → 0 < k → k < 20 → 10 ^ k ≤ 2 ^ 64 → length numbers ≤ 3 → ((i : ℕ) → i < length numbers → get_or numbers i 0 < 10 ^ k) → largest < 10000
+    → length (totals numbers (Ok (Accepted largest))) ≤ 100
+totals_short k numbers v p small w few h l =
+    let e = spaced_short k numbers p w h in
+    let most : (k + 1) * length numbers ≤ 20 * 3 = mul-le (k + 1) (length numbers) 20 3 (omega arith) few in
+    let t = accepted_short v l in
+    let x = length-append (codes "total") (spaced numbers ++ (verdict_text (Ok (Accepted v)) ++ (10 ∷ []))) in
+    let y = length-append (spaced numbers) (verdict_text (Ok (Accepted v)) ++ (10 ∷ [])) in
+    let z = length-append (verdict_text (Ok (Accepted v))) (10 ∷ []) in
+    omega arith
+
 module _ (m : Map) where
   contenders_lt : (n : ℕ) → contender_count m n < 100
   contenders_lt n = let l = contenders_le m n in omega arith
@@ -59,55 +70,21 @@ module _ (m : Map) where
       let l = sum_le (λ a. count_below (r a) a) 64 (nodes m) (λ a q. let c = count_le (r a) a in omega arith) in
       omega arith
 
-  row_short : (n slot : ℕ) → n < 64 → slot < 100 → length (row m n slot) ≤ 12
-  row_short n slot l h =
-      let d = length-decimal-le 2 n (omega arith) (omega arith) (omega arith) in
-      let e = line_end_short 2 (degree m n ∷ (contender_count m n ∷ (slot ∷ []))) (omega arith) (omega arith) (three 100 (degree m n) (contender_count m n) slot (degree_lt n) (contenders_lt n) h) in
-      let s = length-append (decimal n) (line_end (degree m n ∷ (contender_count m n ∷ (slot ∷ [])))) in
-      omega arith
+  columns_lt : (n slot : ℕ) → n < 64 → slot < 100 → (i : ℕ) → i < 4 → get_or (columns m n slot) i 0 < 100
+  columns_lt n slot l h zero q = omega arith
+  columns_lt n slot l h (suc i) q = three 100 (degree m n) (contender_count m n) slot (degree_lt n) (contenders_lt n) h i (omega arith)
 
   rows_short : (slots : ℕ → ℕ) (k : ℕ) → k ≤ 64 → ((i : ℕ) → i < k → slots i < 100) → length (rows m slots k) ≤ 12 * k
-  unfolding rows
-  rows_short slots zero l h = omega arith
-  rows_short slots (suc k) l h =
-      let i = rows_short slots k (omega arith) (λ i q. h i (omega arith)) in
-      let r = row_short k (slots k) (omega arith) (h k (omega arith)) in
-      let e = length-append (rows m slots k) (row m k (slots k)) in
-      omega arith
-
-  totals_short : (largest : ℕ) → largest < 10000 → length (totals m (Ok (Accepted largest))) ≤ 100
-  totals_short v l =
-      let k = m.most in
-      let numbers = nodes m ∷ (link_count m ∷ (contending_pairs m ∷ [])) in
-      let e = spaced_short 4 (nodes m ∷ (link_count m ∷ (contending_pairs m ∷ []))) (omega arith) (omega arith)
-      (three 10000 (nodes m) (link_count m) (contending_pairs m) (omega arith) (pairs_lt (linked m)) (pairs_lt (contend m))) in
-      let t = accepted_short v l in
-      let x = length-append (codes "total") (spaced numbers ++ (verdict_text (Ok (Accepted v)) ++ (10 ∷ []))) in
-      let y = length-append (spaced numbers) (verdict_text (Ok (Accepted v)) ++ (10 ∷ [])) in
-      let z = length-append (verdict_text (Ok (Accepted v))) (10 ∷ []) in
-      omega arith
+  rows_short slots k l h =
+      lines_short (λ n. row_line (columns m n (slots n))) 12 k
+      (λ n q. row_short 2 (columns m n (slots n)) (omega arith) (omega arith) (columns_lt n (slots n) (omega arith) (h n q)))
 
   pub overview_short : length (overview m) ≤ 1024
   overview_short =
       let k = m.most in
       let f = max_le (slot_of m) (nodes m) 64 (λ i l. slot_le m i l) in
       let r = rows_short (slot_of m) (nodes m) m.most (λ i l. let s = slot_le m i l in omega arith) in
-      let t = totals_short (frame m) (omega arith) in
-      let e = length-append (rows m (slot_of m) (nodes m)) (totals m (Ok (Accepted (frame m)))) in
+      let t = totals_short 4 (sizes m) (frame m) (omega arith) (omega arith) (omega arith) (omega arith)
+      (three 10000 (nodes m) (link_count m) (contending_pairs m) (omega arith) (pairs_lt (linked m)) (pairs_lt (contend m))) (omega arith) in
+      let e = length-append (rows m (slot_of m) (nodes m)) (totals (sizes m) (Ok (Accepted (frame m)))) in
       omega arith
-
--- one line more
-
-pub rows_none : (m : Map) (slots : ℕ → ℕ) (s : List ℕ) → length s ≤ 1024 → s ≡ clip (s ++ rows m slots 0)
-unfolding rows
-rows_none m slots s l = none_yet s l
-
-pub rows_more : (m : Map) (slots : ℕ → ℕ) (s t u : List ℕ) (n : ℕ) → t ≡ clip (s ++ rows m slots n) → u ≡ clip (t ++ row m n (slots n)) → u ≡ clip (s ++ rows m slots (n + 1))
-unfolding rows
-rows_more m slots s t u n p q =
-    and_then s t u (rows m slots n) (row m n (slots n)) p q ∙ ap (λ (k : ℕ). clip (s ++ rows m slots k)) (let e : suc n ≡ n + 1 = omega arith in e)
-
-pub rows_like : (m : Map) (f g : ℕ → ℕ) (k : ℕ) → ((i : ℕ) → i < k → f i ≡ g i) → rows m f k ≡ rows m g k
-unfolding rows
-rows_like m f g zero h = refl
-rows_like m f g (suc k) h = ap₂ (λ (x : List ℕ) (y : ℕ). x ++ row m k y) (rows_like m f g k (λ i l. h i (omega arith))) (h k (omega arith))

@@ -1,5 +1,5 @@
 -- The report on a job: a line for each node of its map, and the totals; or the line of its refusal.
-use Rattle.std.specs.Prelude.{◌≡◌, ℕ, zero, suc, ◌⊎◌, List, [], ◌∷◌, ◌++◌, map, Ok, Err, codes, decimal, Result}
+use Rattle.std.specs.Prelude.{◌≡◌, ℕ, ◌⊎◌, List, [], ◌∷◌, ◌++◌, map, Ok, Err, codes, Result}
 use Rattle.std.specs.List.{range_with_len}
 use Rattle.marks.specs.Below.{max_below}
 use Rattle.refusal.specs.Entry.{entry}
@@ -10,7 +10,7 @@ use Rattle.records.specs.Build.{Built}
 use Rattle.schedule.specs.Rand.{rand}
 use Rattle.schedule.specs.declared.checking.Verdict.{Verdict}
 use Rattle.schedule.specs.declared.checking.Verdict.TheVariants.{Accepted, Clash}
-use Rattle.text.specs.Written.{spaced, line_end, refused_line}
+use Rattle.text.specs.Written.{spaced, row_line, lines, refused_line}
 
 -- the numbers below n, by rising number
 abbrev pub rising : ℕ → List ℕ
@@ -28,14 +28,13 @@ frame m = max_below (slot_of m) (nodes m)
 abbrev pub contending_pairs : Map → ℕ
 contending_pairs m = pairs (contend m) (nodes m)
 
--- a line: node, neighbours, contenders, slot
-abbrev pub row : Map → ℕ → ℕ → List ℕ
-row m n slot = decimal n ++ line_end (degree m n ∷ (contender_count m n ∷ (slot ∷ [])))
+-- the numbers of a node's line: node, neighbours, contenders, slot
+abbrev pub columns : Map → ℕ → ℕ → List ℕ
+columns m n slot = n ∷ (degree m n ∷ (contender_count m n ∷ (slot ∷ [])))
 
 -- the lines of the nodes below k, by rising number, with their slots
-unfoldable pub rows : Map → (ℕ → ℕ) → ℕ → List ℕ
-rows m slots zero = []
-rows m slots (suc k) = rows m slots k ++ row m k (slots k)
+abbrev pub rows : Map → (ℕ → ℕ) → ℕ → List ℕ
+rows m slots k = lines (λ n. row_line (columns m n (slots n))) k
 
 -- the checker's verdict: the largest slot and "accepted", or the pair that clashes, or a refusal
 abbrev pub verdict_text : Result Verdict Refusal → List ℕ
@@ -43,13 +42,17 @@ verdict_text (Ok (Accepted largest)) = spaced (largest ∷ []) ++ codes " accept
 verdict_text (Ok (Clash pair)) = codes " clash" ++ spaced (pair.0 ∷ (pair.1 ∷ []))
 verdict_text (Err e) = codes " refused" ++ spaced ((entry e).number ∷ [])
 
--- the last line: nodes, links, contending pairs, and the verdict
-abbrev pub totals : Map → Result Verdict Refusal → List ℕ
-totals m verdict = codes "total" ++ (spaced (nodes m ∷ (link_count m ∷ (contending_pairs m ∷ []))) ++ (verdict_text verdict ++ (10 ∷ [])))
+-- the last line: numbers, and the verdict
+abbrev pub totals : List ℕ → Result Verdict Refusal → List ℕ
+totals numbers verdict = codes "total" ++ (spaced numbers ++ (verdict_text verdict ++ (10 ∷ [])))
+
+-- nodes, links and contending pairs
+abbrev pub sizes : Map → List ℕ
+sizes m = nodes m ∷ (link_count m ∷ (contending_pairs m ∷ []))
 
 -- the slots of the nodes planned in rising order are always accepted
 abbrev pub overview : Map → List ℕ
-overview m = rows m (slot_of m) (nodes m) ++ totals m (Ok (Accepted (frame m)))
+overview m = rows m (slot_of m) (nodes m) ++ totals (sizes m) (Ok (Accepted (frame m)))
 
 -- what is printed of a job: the overview of the map that it describes, or why it is refused
 abbrev pub Reported : List ℕ → List ℕ → Type 0

@@ -11,13 +11,13 @@ use records::build;
 use rules::NodeRule;
 use schedule::check;
 use text::Text;
-use writing::{push_rows, push_totals};
+use writing::{push_rows, sizes};
 
 mod planning;
 mod writing;
 
 pub use planning::planned;
-pub use writing::push_verdict;
+pub use writing::{push_totals, push_verdict};
 
 fn describe(map: &Map) -> Text
     ensures { written result ≡ overview map.now }
@@ -26,7 +26,7 @@ fn describe(map: &Map) -> Text
     let verdict = check(&NodeRule::new(map), &slots);
     let mut text = Text::new();
     push_rows(&mut text, map, &slots);
-    push_totals(&mut text, map, verdict);
+    push_totals(&mut text, &sizes(map), verdict);
     text
 }
 
@@ -40,8 +40,5 @@ fn describe(map: &Map) -> Text
 pub fn report(job: &[u8]) -> Text
     ensures { Reported job.now (written result) }
 {
-    match build(job) {
-        Ok(map) => describe(&map),
-        Err(refusal) => Text::of_refusal(refusal),
-    }
+    build(job).map_or_else(Text::from, |map| describe(&map))
 }

@@ -8,18 +8,7 @@ ghost use Rattle.schedule.specs.declared.checking.Verdict.TheVariants.{Accepted}
 use map::Map;
 use rules::NodeRule;
 use schedule::{ClashRule, plan};
-
-// The numbers from 0 to 63.
-fn rising() -> [u16; 64]
-    ensures len { length result ≡ 64 }
-    ensures items { (k : ℕ) → k < 64 → slice_index result k ≡ k }
-{
-    let mut order = [0u16; 64];
-    for i in 0..64u16 {
-        order[i as usize] = i;
-    }
-    order
-}
+use std::array;
 
 /// The slot of each node, planned in rising order of the nodes; such a plan is never refused, and
 /// the checker accepts it. 0 past the nodes.
@@ -29,9 +18,9 @@ pub fn planned(map: &Map) -> [u16; 64]
     ensures past { (k : ℕ) → nodes map.now ≤ k → slice_index result k ≡ 0 }
     ensures accepted { (m : ℕ) × Checked (contend map.now) (nodes map.now) result (Ok (Accepted m)) }
 {
-    let order = rising();
+    let order: [u16; 64] = array::from_fn(|i| i as u16);
     let count = usize::from(map.count());
     let mut slots = [0u16; 64];
-    let _ = plan(&NodeRule::new(map), &order[0..count], &mut slots);
+    let _ = plan(&NodeRule::new(map), &order[..count], &mut slots);
     slots
 }

@@ -1,45 +1,46 @@
 //! The lines of a report.
-ghost use Rattle.std.specs.Prelude.{◌≡◌, ◌++◌, length};
+ghost use Rattle.std.specs.Prelude.{◌≡◌, ◌<◌, ◌++◌, slice_index};
 ghost use Rattle.map.specs.View.{nodes};
-ghost use Rattle.report.specs.Overview.{contending_pairs, row, rows, totals, verdict_text};
+ghost use Rattle.report.specs.Overview.{columns, contending_pairs, rows, sizes, totals, verdict_text};
 ghost use Rattle.schedule.specs.Order.{entries};
 ghost use Rattle.text.specs.Written.{clip, written};
 
 use map::Map;
 use refusal::Refusal;
 use schedule::Verdict;
+use std::array;
 use text::Text;
 
 // The number of pairs that contend, each counted once: each is seen from both of its ends.
 fn contending_pairs(map: &Map) -> usize
     ensures { result ≡ contending_pairs map.now }
 {
-    let mut ends = 0;
-    for n in 0..map.count() {
-        ends += usize::from(map.contenders(n).len());
-    }
+    let ends: usize = (0..map.count())
+        .map(|n| usize::from(map.contenders(n).len()))
+        .sum();
     ends / 2
 }
 
-// The line of node `n`: its number, its neighbours, its contenders, its slot.
-fn push_row(text: &mut Text, map: &Map, n: u8, slot: u16)
-    ensures { written text.new ≡ clip (written text.old ++ row map.now n slot) }
+// The numbers of the line of node `n`: the node, its neighbours, its contenders, its slot.
+fn columns(map: &Map, n: u8, slot: u16) -> [usize; 4]
+    ensures { result ≡ columns map.now n slot }
 {
     let neighbours = usize::from(map.degree(n));
     let contenders = usize::from(map.contenders(n).len());
-    let slot = usize::from(slot);
-    text.push_number(usize::from(n));
-    text.end_line(&[neighbours, contenders, slot]);
+    [usize::from(n), neighbours, contenders, usize::from(slot)]
 }
 
 /// A line for each node by rising number.
-pub(crate) fn push_rows(text: &mut Text, map: &Map, slots: &[u16])
-    requires { length slots.now ≡ 64 }
+pub(crate) fn push_rows(text: &mut Text, map: &Map, slots: &[u16; 64])
     ensures { written text.new ≡ clip (written text.old ++ rows map.now (entries slots.now) (nodes map.now)) }
 {
-    for n in 0..map.count() {
-        push_row(text, map, n, slots[n as usize]);
-    }
+    let rows: [[usize; 4]; 64] = array::from_fn(
+        |n|
+            requires { n < 64 }
+            ensures { result ≡ columns map.entry.now n (slice_index slots.entry.now n) }
+        { columns(map, n as u8, slots[n]) },
+    );
+    text.push_rows(&rows[..usize::from(map.count())]);
 }
 
 /// Writes what the checker says, each word and number after one space: the largest slot and
@@ -49,32 +50,36 @@ pub fn push_verdict(text: &mut Text, verdict: Result<Verdict, Refusal>)
     ensures { written text.new ≡ clip (written text.old ++ verdict_text verdict) }
 {
     match verdict {
-        Ok(told) => match told {
-            Verdict::Accepted(largest) => {
-                text.push_numbers(&[usize::from(largest)]);
-                text.push_str(" accepted");
-            }
-            Verdict::Clash(pair) => {
-                text.push_str(" clash");
-                text.push_numbers(&[usize::from(pair.0), usize::from(pair.1)]);
-            }
-        },
+        Ok(Verdict::Accepted(largest)) => {
+            text.push_numbers(&[usize::from(largest)]);
+            text.push_str(" accepted");
+        }
+        Ok(Verdict::Clash(pair)) => {
+            text.push_str(" clash");
+            text.push_numbers(&[usize::from(pair.0), usize::from(pair.1)]);
+        }
         Err(refusal) => {
             text.push_str(" refused");
-            text.push_numbers(&[usize::from(refusal.number())]);
+            text.push_numbers(&[usize::from(u8::from(refusal))]);
         }
     }
 }
 
-/// The last line: the numbers of nodes, of links and of contending pairs, and the verdict.
-pub(crate) fn push_totals(text: &mut Text, map: &Map, verdict: Result<Verdict, Refusal>)
-    ensures { written text.new ≡ clip (written text.old ++ totals map.now verdict) }
+/// Writes the last line of a report: "total", the numbers and the verdict, each after one space.
+pub fn push_totals(text: &mut Text, numbers: &[usize], verdict: Result<Verdict, Refusal>)
+    ensures { written text.new ≡ clip (written text.old ++ totals numbers.now verdict) }
+{
+    text.push_str("total");
+    text.push_numbers(numbers);
+    push_verdict(text, verdict);
+    text.push(b'\n');
+}
+
+/// The numbers of nodes, of links and of contending pairs.
+pub(crate) fn sizes(map: &Map) -> [usize; 3]
+    ensures { result ≡ sizes map.now }
 {
     let nodes = usize::from(map.count());
     let links = usize::from(map.links());
-    let pairs = contending_pairs(map);
-    text.push_str("total");
-    text.push_numbers(&[nodes, links, pairs]);
-    push_verdict(text, verdict);
-    text.push(b'\n');
+    [nodes, links, contending_pairs(map)]
 }

@@ -1,4 +1,3 @@
-use map::Map;
 use marks::Marks;
 use radio::{Kind, Message, RackQueue, Radio};
 use refusal::Refusal;
@@ -6,13 +5,8 @@ use rig::{Lottery, Phase, Rig};
 
 // A rig of the path 0–1–2–.. of so many nodes.
 fn path(count: u8) -> Rig {
-    let mut map = Map::new();
-    let _ = map.open(count);
-    for a in 1..count {
-        let _ = map.link(a - 1, a);
-    }
     let mut rig = Rig::new();
-    rig.open(&map);
+    rig.open(&benches::path(count));
     rig
 }
 
@@ -20,7 +14,7 @@ fn path(count: u8) -> Rig {
 fn drawn(answer: Result<Lottery, Refusal>) -> (u8, u8) {
     match answer {
         Ok(lottery) => (lottery.into(), 0),
-        Err(refusal) => (0, refusal.number()),
+        Err(refusal) => (0, u8::from(refusal)),
     }
 }
 
@@ -28,7 +22,7 @@ fn drawn(answer: Result<Lottery, Refusal>) -> (u8, u8) {
 fn told(answer: Result<u8, Refusal>) -> (u8, u8) {
     match answer {
         Ok(value) => (value, 0),
-        Err(refusal) => (0, refusal.number()),
+        Err(refusal) => (0, u8::from(refusal)),
     }
 }
 
@@ -37,7 +31,7 @@ fn delivered(answer: Result<Option<Kind>, Refusal>) -> (u8, u8) {
     match answer {
         Ok(Some(kind)) => (kind.into(), 0),
         Ok(None) => (0, 0),
-        Err(refusal) => (0, refusal.number()),
+        Err(refusal) => (0, u8::from(refusal)),
     }
 }
 
@@ -50,14 +44,14 @@ fn phase(rig: &Rig, k: u8) -> (u8, u8) {
             Phase::Grant => (2, 0),
             Phase::Release => (3, 0),
         },
-        Err(refusal) => (0, refusal.number()),
+        Err(refusal) => (0, u8::from(refusal)),
     }
 }
 
 fn round(rig: &Rig, k: u8) -> (u16, u8) {
     match rig.round(k) {
         Ok(round) => (round, 0),
-        Err(refusal) => (0, refusal.number()),
+        Err(refusal) => (0, u8::from(refusal)),
     }
 }
 

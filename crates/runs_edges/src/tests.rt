@@ -1,5 +1,5 @@
+use benches::path;
 use law::{Answer, Call};
-use map::Map;
 use radio::{CoinRadio, RackQueue};
 use refusal::Refusal;
 use rig::Rig;
@@ -8,16 +8,6 @@ use schedule::Verdict;
 use std::array;
 use std::test::Fail;
 
-// The path 0–1–2–.. of so many nodes.
-fn path(count: u8) -> Map {
-    let mut map = Map::new();
-    let _ = map.open(count);
-    for a in 1..count {
-        let _ = map.link(a - 1, a);
-    }
-    map
-}
-
 // An answer as a number: what the call answered, or 100 more than its refusal's.
 fn number(answer: Answer) -> u8 {
     let told = match answer {
@@ -25,12 +15,12 @@ fn number(answer: Answer) -> u8 {
         Answer::Delivered(outcome) => outcome.map(|came| came.map_or(0, u8::from)),
         Answer::Nudged(outcome) => outcome,
     };
-    told.unwrap_or_else(|refusal| refusal.number().saturating_add(100))
+    told.unwrap_or_else(|refusal| u8::from(refusal).saturating_add(100))
 }
 
 // The number of the refusal of a list of calls, or 0.
 fn refused(outcome: Result<Performed, Refusal>) -> u8 {
-    outcome.err().map_or(0, |refusal| refusal.number())
+    outcome.err().map_or(0, |refusal| u8::from(refusal))
 }
 
 #[test]

@@ -1,45 +1,29 @@
 use script::{Event, read};
 use std::test::Fail;
 
-// A refusal's number and index, or zeros for a job that was read.
-fn verdict(job: &[u8]) -> (u8, usize) {
-    match read(job) {
-        Ok(_) => (0, 0),
-        Err(refusal) => (refusal.number(), refusal.index().unwrap_or(0)),
-    }
+// Why a job is refused: the refusal's number, and its index if it has one; `None` for a job that is read.
+fn refused(job: &[u8]) -> Option<(u8, Option<usize>)> {
+    let refusal = read(job).err()?;
+    Some((u8::from(refusal), refusal.index()))
 }
 
-// The count of nodes, the number of links and the seed that a job sets up, or zeros.
-fn set_up(job: &[u8]) -> (u8, u16, Option<u32>) {
-    match read(job) {
-        Ok(script) => (script.map.count(), script.map.links(), script.seed),
-        Err(_) => (0, 0, None),
-    }
-}
-
-// Letter, node and number of an event, or zeros for a record that is none.
-fn parts(record: &[u8]) -> (u8, u8, u32) {
-    match Event::from_record(record) {
-        Some(Event::Draw(node, number)) => (b'D', node, number),
-        Some(Event::Deliver(most)) => (b'M', 0, most),
-        Some(Event::Nudge(node)) => (b'R', node, 0),
-        None => (0, 0, 0),
-    }
+// The count of nodes, the number of links and the seed that a job sets up, or `None` if it is refused.
+fn set_up(job: &[u8]) -> Option<(u8, u16, Option<u32>)> {
+    let script = read(job).ok()?;
+    Some((script.map.count(), script.map.links(), script.seed))
 }
 
 // Writes a record at a place of a job that has it.
 fn put(job: &mut [u8], place: usize, record: &[u8; 8]) {
-    if place < job.len() / 8 {
-        for k in 0..8 {
-            job[8 * place + k] = record[k];
-        }
+    if let Some(bytes) = job.chunks_exact_mut(8).nth(place) {
+        bytes.copy_from_slice(record);
     }
 }
 
 #[test]
 fn bad_at_the_first_place(rt: HostRuntime) -> Result<(), Fail> {
     let mut job = *b"N\x03\0\0\0\0\0\0L\0\x01\0\0\0\0\0M\0\0\0\0\0\0\x01";
-    assert_eq!(rt; verdict(&job), (0, 0));
+    assert_eq!(rt; refused(&job), None);
     for first in [
         b"N\0\0\0\0\0\0\0",
         b"N\x41\0\0\0\0\0\0",
@@ -56,10 +40,10 @@ fn bad_at_the_first_place(rt: HostRuntime) -> Result<(), Fail> {
         b"\0\0\0\0\0\0\0\0",
     ] {
         put(&mut job, 0, first);
-        assert_eq!(rt; verdict(&job), (14, 0));
+        assert_eq!(rt; refused(&job), Some((14, Some(0))));
     }
     put(&mut job, 0, b"N\x40\0\0\0\0\0\0");
-    assert_eq!(rt; verdict(&job), (0, 0));
+    assert_eq!(rt; refused(&job), None);
     Ok(())
 }
 
@@ -67,7 +51,7 @@ fn bad_at_the_first_place(rt: HostRuntime) -> Result<(), Fail> {
 fn bad_at_a_later_place(rt: HostRuntime) -> Result<(), Fail> {
     let good =
         *b"N\x03\0\0\0\0\0\0L\0\x01\0\0\0\0\0L\x01\x02\0\0\0\0\0D\xFF\0\0\0\0\0\x01R\xFF\0\0\0\0\0\0";
-    assert_eq!(rt; verdict(&good), (0, 0));
+    assert_eq!(rt; refused(&good), None);
     for bad in [
         b"N\x03\0\0\0\0\0\0",
         b"C\x01\0\0\0\0\0\x01",
@@ -97,7 +81,7 @@ fn bad_at_a_later_place(rt: HostRuntime) -> Result<(), Fail> {
         let mut job = good;
         for place in [4, 2, 1] {
             put(&mut job, place, bad);
-            assert_eq!(rt; verdict(&job), (14, place));
+            assert_eq!(rt; refused(&job), Some((14, Some(place))));
         }
     }
     Ok(())
@@ -106,26 +90,66 @@ fn bad_at_a_later_place(rt: HostRuntime) -> Result<(), Fail> {
 #[test]
 fn what_may_stand_where(rt: HostRuntime) -> Result<(), Fail> {
     let mut job = *b"N\x03\0\0\0\0\0\0........________";
-    for (second, third, number, index) in [
-        (b"C\0\0\0\0\0\0\x07", b"L\0\x01\0\0\0\0\0", 0, 0),
-        (b"C\0\0\0\0\0\0\x07", b"D\0\0\0\0\0\0\x01", 0, 0),
-        (b"C\0\0\0\0\0\0\x07", b"C\0\0\0\0\0\0\x07", 14, 2),
-        (b"L\0\x01\0\0\0\0\0", b"C\0\0\0\0\0\0\x07", 14, 2),
-        (b"D\0\0\0\0\0\0\x01", b"C\0\0\0\0\0\0\x07", 14, 2),
-        (b"N\x03\0\0\0\0\0\0", b"L\0\x01\0\0\0\0\0", 14, 1),
-        (b"C\0\0\0\0\0\0\x07", b"N\x03\0\0\0\0\0\0", 14, 2),
-        (b"L\0\x01\0\0\0\0\0", b"L\x01\0\0\0\0\0\0", 0, 0),
-        (b"D\0\0\0\0\0\0\x01", b"L\0\x01\0\0\0\0\0", 14, 2),
-        (b"M\0\0\0\0\0\0\x01", b"L\0\x01\0\0\0\0\0", 14, 2),
-        (b"R\0\0\0\0\0\0\0", b"L\0\x01\0\0\0\0\0", 14, 2),
-        (b"D\xFF\0\0\xFF\xFF\xFF\xFF", b"R\xFF\0\0\0\0\0\0", 0, 0),
-        (b"M\0\0\0\0\0\0\x01", b"M\0\0\0\0\0\x10\0", 0, 0),
-        (b"M\0\0\0\0\0\0\0", b"M\0\0\0\0\0\x10\x01", 14, 1),
-        (b"M\0\0\0\0\0\x10\0", b"M\0\0\0\0\0\x10\x01", 14, 2),
+    for (second, third, refusal) in [
+        (b"C\0\0\0\0\0\0\x07", b"L\0\x01\0\0\0\0\0", None),
+        (b"C\0\0\0\0\0\0\x07", b"D\0\0\0\0\0\0\x01", None),
+        (
+            b"C\0\0\0\0\0\0\x07",
+            b"C\0\0\0\0\0\0\x07",
+            Some((14, Some(2))),
+        ),
+        (
+            b"L\0\x01\0\0\0\0\0",
+            b"C\0\0\0\0\0\0\x07",
+            Some((14, Some(2))),
+        ),
+        (
+            b"D\0\0\0\0\0\0\x01",
+            b"C\0\0\0\0\0\0\x07",
+            Some((14, Some(2))),
+        ),
+        (
+            b"N\x03\0\0\0\0\0\0",
+            b"L\0\x01\0\0\0\0\0",
+            Some((14, Some(1))),
+        ),
+        (
+            b"C\0\0\0\0\0\0\x07",
+            b"N\x03\0\0\0\0\0\0",
+            Some((14, Some(2))),
+        ),
+        (b"L\0\x01\0\0\0\0\0", b"L\x01\0\0\0\0\0\0", None),
+        (
+            b"D\0\0\0\0\0\0\x01",
+            b"L\0\x01\0\0\0\0\0",
+            Some((14, Some(2))),
+        ),
+        (
+            b"M\0\0\0\0\0\0\x01",
+            b"L\0\x01\0\0\0\0\0",
+            Some((14, Some(2))),
+        ),
+        (
+            b"R\0\0\0\0\0\0\0",
+            b"L\0\x01\0\0\0\0\0",
+            Some((14, Some(2))),
+        ),
+        (b"D\xFF\0\0\xFF\xFF\xFF\xFF", b"R\xFF\0\0\0\0\0\0", None),
+        (b"M\0\0\0\0\0\0\x01", b"M\0\0\0\0\0\x10\0", None),
+        (
+            b"M\0\0\0\0\0\0\0",
+            b"M\0\0\0\0\0\x10\x01",
+            Some((14, Some(1))),
+        ),
+        (
+            b"M\0\0\0\0\0\x10\0",
+            b"M\0\0\0\0\0\x10\x01",
+            Some((14, Some(2))),
+        ),
     ] {
         put(&mut job, 1, second);
         put(&mut job, 2, third);
-        assert_eq!(rt; verdict(&job), (number, index));
+        assert_eq!(rt; refused(&job), refusal);
     }
     Ok(())
 }
@@ -133,65 +157,67 @@ fn what_may_stand_where(rt: HostRuntime) -> Result<(), Fail> {
 #[test]
 fn lengths_of_jobs(rt: HostRuntime) -> Result<(), Fail> {
     let mut job = [0u8; 32_776];
-    for place in 0..4097 {
-        put(&mut job, place, b"R\xFF\0\0\0\0\0\0");
+    for record in job.chunks_exact_mut(8) {
+        record.copy_from_slice(b"R\xFF\0\0\0\0\0\0");
     }
     put(&mut job, 0, b"N\x01\0\0\0\0\0\0");
-    for (length, number) in [
-        (0, 14),
-        (7, 13),
-        (8, 0),
-        (12, 13),
-        (32_767, 13),
-        (32_768, 0),
-        (32_769, 2),
-        (32_776, 2),
+    for (length, refusal) in [
+        (0, Some((14, Some(0)))),
+        (7, Some((13, None))),
+        (8, None),
+        (12, Some((13, None))),
+        (32_767, Some((13, None))),
+        (32_768, None),
+        (32_769, Some((2, None))),
+        (32_776, Some((2, None))),
     ] {
         assert!(rt; length <= job.len());
-        assert_eq!(rt; verdict(&job[0..length]), (number, 0));
+        assert_eq!(rt; refused(&job[0..length]), refusal);
     }
     put(&mut job, 4095, b"L\0\x01\0\0\0\0\0");
-    assert!(rt; 32_768 <= job.len());
-    assert_eq!(rt; verdict(&job[0..32_768]), (14, 4095));
+    assert_eq!(rt; refused(&job[0..32_768]), Some((14, Some(4095))));
     Ok(())
 }
 
 #[test]
 fn what_a_job_sets_up(rt: HostRuntime) {
-    assert_eq!(rt; set_up(b"N\x40\0\0\0\0\0\0"), (64, 0, None));
+    assert_eq!(rt; set_up(b"N\x40\0\0\0\0\0\0"), Some((64, 0, None)));
     assert_eq!(rt;
         set_up(b"N\x02\0\0\0\0\0\0C\0\0\0\x01\x02\x03\x04"),
-        (2, 0, Some(0x0102_0304))
+        Some((2, 0, Some(0x0102_0304)))
     );
     assert_eq!(rt;
         set_up(b"N\x02\0\0\0\0\0\0C\0\0\0\0\0\0\0L\0\x01\0\0\0\0\0"),
-        (2, 1, Some(0))
+        Some((2, 1, Some(0)))
     );
     assert_eq!(rt;
         set_up(b"N\x02\0\0\0\0\0\0L\0\x01\0\0\0\0\0L\x01\0\0\0\0\0\0D\0\0\0\0\0\0\x01"),
-        (2, 1, None)
+        Some((2, 1, None))
     );
-    assert_eq!(rt; set_up(b"N\x02\0\0\0\0\0\0L\0\x02\0\0\0\0\0"), (0, 0, None));
+    assert_eq!(rt; set_up(b"N\x02\0\0\0\0\0\0L\0\x02\0\0\0\0\0"), None);
 }
 
 #[test]
 fn events_of_records(rt: HostRuntime) {
     for (record, event) in [
-        (b"D\xFF\0\0\xFF\xFF\xFF\xFF", (b'D', 255, 4_294_967_295)),
-        (b"D\0\0\0\0\0\0\0", (b'D', 0, 0)),
-        (b"D\0\x01\0\0\0\0\0", (0, 0, 0)),
-        (b"M\0\0\0\0\0\0\0", (0, 0, 0)),
-        (b"M\0\0\0\0\0\0\x01", (b'M', 0, 1)),
-        (b"M\0\0\0\0\0\x10\0", (b'M', 0, 4096)),
-        (b"M\0\0\0\0\0\x10\x01", (0, 0, 0)),
-        (b"R\xFF\0\0\0\0\0\0", (b'R', 255, 0)),
-        (b"R\0\0\0\0\0\0\x01", (0, 0, 0)),
-        (b"N\x03\0\0\0\0\0\0", (0, 0, 0)),
-        (b"L\0\x01\0\0\0\0\0", (0, 0, 0)),
-        (b"C\0\0\0\0\0\0\x01", (0, 0, 0)),
+        (
+            b"D\xFF\0\0\xFF\xFF\xFF\xFF",
+            Some(Event::Draw(255, 4_294_967_295)),
+        ),
+        (b"D\0\0\0\0\0\0\0", Some(Event::Draw(0, 0))),
+        (b"D\0\x01\0\0\0\0\0", None),
+        (b"M\0\0\0\0\0\0\0", None),
+        (b"M\0\0\0\0\0\0\x01", Some(Event::Deliver(1))),
+        (b"M\0\0\0\0\0\x10\0", Some(Event::Deliver(4096))),
+        (b"M\0\0\0\0\0\x10\x01", None),
+        (b"R\xFF\0\0\0\0\0\0", Some(Event::Nudge(255))),
+        (b"R\0\0\0\0\0\0\x01", None),
+        (b"N\x03\0\0\0\0\0\0", None),
+        (b"L\0\x01\0\0\0\0\0", None),
+        (b"C\0\0\0\0\0\0\x01", None),
     ] {
-        assert_eq!(rt; parts(record), event);
+        assert_eq!(rt; Event::from_record(record), event);
     }
-    assert_eq!(rt; parts(b"R\0\0\0\0\0\0"), (0, 0, 0));
-    assert_eq!(rt; parts(b"R\0\0\0\0\0\0\0\0"), (0, 0, 0));
+    assert_eq!(rt; Event::from_record(b"R\0\0\0\0\0\0"), None);
+    assert_eq!(rt; Event::from_record(b"R\0\0\0\0\0\0\0\0"), None);
 }

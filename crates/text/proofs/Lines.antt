@@ -6,13 +6,47 @@ use Rattle.std.proofs.lemmas.List.{take_more, flat_map_more}
 use Rattle.refusal.specs.declared.Refusal.{Refusal}
 use Rattle.refusal.specs.declared.Refusal.TheVariants.{Short, Count, Node, SelfLink, Twice, Missing, Unlinked, Settled, Busy, Spent, Quiet, Foreign, Torn, Record}
 use Rattle.refusal.specs.Entry.{entry}
-use Rattle.text.specs.Written.{clip, spaced, line_end, refused_line}
+use Rattle.text.specs.Written.{clip, spaced, line_end, row_line, table, lines, refused_line}
 use Rattle.text.proofs.Clip.{and_then}
 
 pub number_more : (s t u v ns : List ℕ) (i : ℕ) → i < length ns → t ≡ clip (s ++ spaced (take i ns)) → u ≡ clip (t ++ (32 ∷ [])) → v ≡ clip (u ++ decimal (get_or ns i 0)) → v ≡ clip (s ++ spaced (take (i + 1) ns))
 number_more s t u v ns i l p q r =
     and_then s t v (spaced (take i ns)) (32 ∷ decimal (get_or ns i 0)) p (and_then t u v (32 ∷ []) (decimal (get_or ns i 0)) q r)
     ∙ ap (λ (x : List ℕ). clip (s ++ x)) (flat_map_more (λ n. 32 ∷ decimal n) [] (take i ns) (get_or ns i 0) ∙ ap spaced (sym (take_more ns i 0 l)))
+
+pub row_more : (s t u : List ℕ) (rows : List (List ℕ)) (i : ℕ) (row : List ℕ) → row ≡ get_or rows i row → i < length rows → t ≡ clip (s ++ table (take i rows)) → u ≡ clip (t ++ row_line row)
+    → u ≡ clip (s ++ table (take (i + 1) rows))
+row_more s t u rows i row is l p q =
+    and_then s t u (table (take i rows)) (row_line row) p q
+    ∙ ap (λ (x : List ℕ). clip (s ++ x))
+    (flat_map_more row_line [] (take i rows) row ∙ ap table (ap (λ (x : List ℕ). take i rows ++ (x ∷ [])) is ∙ sym (take_more rows i row l)))
+
+-- the lines of the numbers below k
+
+-- a table's lines are those of its places
+pub table_lines : (rows : List (List ℕ)) (columns : ℕ → List ℕ) (k : ℕ) → k ≤ length rows → ((i : ℕ) → i < k → get_or rows i [] ≡ columns i) → table (take k rows) ≡ lines (λ i. row_line (columns i)) k
+unfolding lines
+table_lines rows columns zero l each = refl
+table_lines rows columns (suc k) l each =
+    let e : suc k ≡ k + 1 = omega arith in
+    ap (λ (n : ℕ). table (take n rows)) e ∙ ap table (take_more rows k [] (omega arith)) ∙ sym (flat_map_more row_line [] (take k rows) (get_or rows k []))
+    ∙ ap₂ (λ (x y : List ℕ). x ++ y) (table_lines rows columns k (omega arith) (λ i q. each i (omega arith))) (ap row_line (each k (omega arith)))
+
+pub lines_like : (f g : ℕ → List ℕ) (k : ℕ) → ((i : ℕ) → i < k → f i ≡ g i) → lines f k ≡ lines g k
+unfolding lines
+lines_like f g zero h = refl
+lines_like f g (suc k) h = ap₂ (λ (x y : List ℕ). x ++ y) (lines_like f g k (λ i l. h i (omega arith))) (h k (omega arith))
+
+-- lines of at most w bytes each
+pub lines_short : (f : ℕ → List ℕ) (w k : ℕ) → ((i : ℕ) → i < k → length (f i) ≤ w) → length (lines f k) ≤ w * k
+unfolding lines
+lines_short f w zero h = omega arith
+lines_short f w (suc k) h =
+    let l = lines_short f w k (λ i q. h i (omega arith)) in
+    let m = h k (omega arith) in
+    let e = length-append (lines f k) (f k) in
+    let s : w * suc k ≡ w * k + w = mul-suc w k in
+    omega arith
 
 pub refused-line : (s t u : List ℕ) (e : Refusal) (n : ℕ) (o : Option ℕ) → n ≡ (entry e).number → o ≡ (entry e).index
     → t ≡ clip (s ++ codes "refused") → u ≡ clip (t ++ line_end (n ∷ option_to_list o)) → u ≡ clip (s ++ refused_line e)
@@ -35,6 +69,17 @@ spaced_short k (n ∷ ns) p w h =
 
 pub line_end_short : (k : ℕ) (ns : List ℕ) → 0 < k → 10 ^ k ≤ 2 ^ 64 → ((i : ℕ) → i < length ns → get_or ns i 0 < 10 ^ k) → length (line_end ns) ≤ (k + 1) * length ns + 1
 line_end_short k ns p w h = let l = spaced_short k ns p w h in let e = length-append (spaced ns) (10 ∷ []) in omega arith
+
+-- numbers with one space between two
+pub row_short : (k : ℕ) (ns : List ℕ) → 0 < k → 10 ^ k ≤ 2 ^ 64 → ((i : ℕ) → i < length ns → get_or ns i 0 < 10 ^ k) → length (row_line ns) ≤ (k + 1) * length ns
+row_short k [] p w h = omega arith
+row_short k (n ∷ ns) p w h =
+    let a = h 0 (omega arith) in
+    let d = length-decimal-le k n p a (omega arith) in
+    let l = line_end_short k ns p w (λ i q. h (suc i) (omega arith)) in
+    let e = length-append (decimal n) (line_end ns) in
+    let m : (k + 1) * suc (length ns) ≡ (k + 1) * length ns + (k + 1) = mul-suc (k + 1) (length ns) in
+    omega arith
 
 -- one, two and three numbers below a bound
 

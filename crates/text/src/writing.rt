@@ -1,6 +1,6 @@
 //! Writing to a text.
 ghost use Rattle.std.specs.Prelude.{◌≡◌, [], ◌∷◌, ◌++◌, decimal};
-ghost use Rattle.text.specs.Written.{clip, line_end, refused_line, spaced, written};
+ghost use Rattle.text.specs.Written.{clip, line_end, refused_line, row_line, spaced, table, written};
 
 use crate::Text;
 use bounded::Bounded;
@@ -15,7 +15,9 @@ impl Text {
     pub fn new() -> Text
         ensures { written result ≡ [] }
     {
-        Text { bytes: Bounded::new(0) }
+        Text {
+            bytes: Bounded::new(0),
+        }
     }
 
     /// The bytes written so far.
@@ -59,6 +61,7 @@ impl Text {
     }
 
     /// Ends a line: each number after one space, then a line feed.
+    #[tactic(auto, using(crate::proofs::Clip::and_then))]
     pub fn end_line(&mut self, numbers: &[usize])
         ensures { written self.new ≡ clip (written self.old ++ line_end numbers.now) }
     {
@@ -66,13 +69,23 @@ impl Text {
         self.push(b'\n');
     }
 
-    /// The text of a refusal: its line.
-    pub fn of_refusal(refusal: Refusal) -> Text
-        ensures { written result ≡ clip (refused_line refusal) }
+    /// Writes a line of numbers, one space between two; of no numbers nothing.
+    pub fn push_row(&mut self, numbers: &[usize])
+        ensures { written self.new ≡ clip (written self.old ++ row_line numbers.now) }
     {
-        let mut text = Text::new();
-        text.push_refusal(refusal);
-        text
+        if let Some((first, rest)) = numbers.split_first() {
+            self.push_number(*first);
+            self.end_line(rest);
+        }
+    }
+
+    /// Writes a line for each row, in order.
+    pub fn push_rows<const N: usize>(&mut self, rows: &[[usize; N]])
+        ensures { written self.new ≡ clip (written self.old ++ table rows.now) }
+    {
+        for row in rows {
+            self.push_row(row);
+        }
     }
 
     /// Writes the line of a refusal: the word "refused", its number and, for a bad record, its index.
@@ -80,10 +93,21 @@ impl Text {
         ensures { written self.new ≡ clip (written self.old ++ refused_line refusal) }
     {
         self.push_str("refused");
-        let number = usize::from(refusal.number());
+        let number = usize::from(u8::from(refusal));
         match refusal.index() {
             Some(index) => self.end_line(&[number, index]),
             None => self.end_line(&[number]),
         }
+    }
+}
+
+/// The text of a refusal: its line.
+impl From<Refusal> for Text {
+    ghost from_gives = { λ refusal text. written text ≡ clip (refused_line refusal) };
+
+    fn from(refusal: Refusal) -> Text {
+        let mut text = Text::new();
+        text.push_refusal(refusal);
+        text
     }
 }

@@ -1,14 +1,10 @@
-use Rattle.std.proofs.Common.{◌∙◌, inl, inr, take_all}
-use Rattle.text.specs.Written.{refused_line}
-use Rattle.records.proofs.Fronts.{refused_index}
-use Rattle.text.proofs.Lines.{refused_short}
+use Rattle.std.proofs.Common.{rules}
+use Rattle.text.specs.Written.{written}
+use Rattle.report.proofs.Told.{told}
+use Rattle.driven.specs.Account.{account}
 use Rattle.driven.proofs.report.Goals as goal
 
-pub returns-in-Ok : goal.returns-in-Ok
-returns-in-Ok c = inl (c.in-Ok.map, c.in-Ok.ensures, c.describe.ensures)
-
-pub returns-in-Err : goal.returns-in-Err
-returns-in-Err c =
-    let e = c.in-Err.refusal in
-    let Why = c.in-Err.ensures in
-    inr (e, Why, c.of_refusal.ensures ∙ take_all 1024 (refused_line e) (refused_short e (refused_index c.args.job.now e Why)))
+pub returns : goal.returns
+returns c =
+    told account c.args.job.now (written c.map_or_else.result) c.build.result _ _ (λ m h. search rules) (λ e h. search rules)
+    c.build.ensures c.map_or_else.ensures

@@ -1,9 +1,6 @@
-use Rattle.std.proofs.Common.{◌∙◌, arith, length-set, get_or-set_other, get_or-set_same, below_more}
+use Rattle.std.proofs.Common.{rules, tests, get_or}
+use Rattle.host.proofs.Filled.{filled}
 use Rattle.host.proofs.widened.Goals as goal
 
-pub loop-i-preserved : goal.loop-i-preserved
-loop-i-preserved c = (
-  simp length-set c.loop-i.invariant.0,
-  below_more _ _ (λ k h. get_or-set_other c.loop-i.wide c.loop-i.i k c.from.result 0 (λ e. omega arith) ∙ c.loop-i.invariant.1 k h)
-      (get_or-set_same c.loop-i.wide c.loop-i.i c.from.result 0 (let l = c.loop-i.invariant.0 in omega arith) ∙ c.from.ensures),
-)
+pub returns-clause-same : goal.returns-clause-same
+returns-clause-same c k l = filled _ (λ i. get_or c.args.slots.now i 0) _ (λ i y q t. search (rules, tests)) c.from_fn.result 64 k c.from_fn.ensures.items l

@@ -1,20 +1,24 @@
-use Rattle.std.proofs.Common.{◌≡◌, ℕ, ◌++◌, ap, ◌∙◌, arith, length-take}
+use Rattle.std.proofs.Common.{◌≡◌, ℕ, List, [], ◌++◌, ap, ◌∙◌, arith, rules, tests, take, length}
+use Rattle.map.specs.View.{nodes}
 use Rattle.schedule.specs.Order.{entries}
-use Rattle.text.specs.Written.{written, clip}
-use Rattle.driven.specs.Account.{rows}
-use Rattle.driven.proofs.Room.{rows_none, rows_more}
+use Rattle.text.specs.Written.{written, clip, table}
+use Rattle.text.proofs.Filled.{filled}
+use Rattle.text.proofs.Lines.{table_lines}
+use Rattle.driven.specs.Account.{columns}
 use Rattle.driven.proofs.writing.push_rows.Goals as goal
-
-pub loop-n-init : goal.loop-n-init
-loop-n-init c =
-    rows_none (entries c.args.driven.now) (entries c.args.planned.now) (written c.args.text.now) (simp length-take (let w = c.args.text.now.within in omega arith))
-
-pub loop-n-preserved : goal.loop-n-preserved
-loop-n-preserved c =
-    rows_more (entries c.args.driven.now) (entries c.args.planned.now) (written c.args.text.now) (written c.loop-n.text) (written c.push_row.new.text) c.loop-n.n
-    c.loop-n.invariant c.push_row.ensures
 
 pub returns : goal.returns
 returns c =
-    let e : c.loop-n.n ≡ c.args.count = omega arith in
-    c.loop-n.invariant ∙ ap (λ (k : ℕ). clip (written c.args.text.now ++ rows (entries c.args.driven.now) (entries c.args.planned.now) k)) e
+    let m = c.args.map.now in
+    let most = m.most in
+    let made = c.from_fn-rows.ensures.items in
+    let all = c.from_fn-rows.result in
+    let n : c.from.result ≡ nodes m = c.from.ensures ∙ c.count.ensures in
+    let full : length all ≡ 64 = made.long in
+    let drive = entries c.args.driven.now in
+    let plan = entries c.args.planned.now in
+    c.push_rows.ensures
+    ∙ ap (λ (x : List ℕ). clip (written c.args.text.now ++ x))
+    (ap (λ (k : ℕ). table (take k all)) n
+    ∙ table_lines all (λ k. columns k (drive k) (plan k)) (nodes m) (omega arith)
+    (λ k l. filled _ _ all (λ k row. row ≡ columns k (drive k) (plan k)) (λ x r q h. search (rules, tests)) 64 made k [] (omega arith)))

@@ -1,7 +1,7 @@
 use Rattle.std.proofs.Common.{[], refl, ap}
 use Rattle.rig.specs.Board.{Board}
 use Rattle.rig.specs.Calm.{blank, at}
-use Rattle.facts.specs.Paths.{path}
+use Rattle.benches.specs.Paths.{path}
 use Rattle.facts.proofs.Stands.{Stands, drew, came, told_is}
 use Rattle.facts.proofs.Meeting.{two, draw_0, draw_1, request_1, request_0, reject_0, reject_1, fail_1, fail_0, nothing}
 use Rattle.facts.proofs.rigs.both_request.Goals as goal

@@ -1,6 +1,6 @@
 use Rattle.std.proofs.Common.{[], refl, ◌∙◌}
 use Rattle.rig.specs.Board.{new_board}
-use Rattle.facts.specs.Paths.{path}
+use Rattle.benches.specs.Paths.{path}
 use Rattle.facts.proofs.Stands.{Stands, drew}
 use Rattle.facts.proofs.Drawing.{three_drawn}
 use Rattle.facts.proofs.rigs.draw_with.Goals as goal

@@ -1,7 +1,7 @@
 use Rattle.std.proofs.Common.{[], ◌∷◌}
 use Rattle.rig.specs.Calm.{blank}
 use Rattle.rig.specs.Steps.{reject}
-use Rattle.facts.specs.Paths.{path}
+use Rattle.benches.specs.Paths.{path}
 use Rattle.facts.proofs.Stands.{Stands, drew, came, over, put_alone}
 use Rattle.facts.proofs.Meeting.{two, draw_0}
 use Rattle.facts.proofs.LateGrants.{rejected, draw_again}

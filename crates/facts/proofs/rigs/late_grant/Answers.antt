@@ -3,7 +3,7 @@ use Rattle.radio.specs.declared.message.Message.{Message}
 use Rattle.rig.specs.Calm.{blank, at}
 use Rattle.rig.specs.Board.{Board}
 use Rattle.rig.specs.Steps.{grant}
-use Rattle.facts.specs.Paths.{path}
+use Rattle.benches.specs.Paths.{path}
 use Rattle.facts.proofs.Stands.{Stands, came, told_is, put_alone}
 use Rattle.facts.proofs.Meeting.{two}
 use Rattle.facts.proofs.LateGrants.{again, late}

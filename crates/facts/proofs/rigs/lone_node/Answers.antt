@@ -1,7 +1,7 @@
 use Rattle.std.proofs.Common.{[], refl, ap}
 use Rattle.rig.specs.Board.{new_board, Board}
 use Rattle.rig.specs.Calm.{at}
-use Rattle.facts.specs.Paths.{path}
+use Rattle.benches.specs.Paths.{path}
 use Rattle.facts.proofs.Stands.{Stands, drew, told_is}
 use Rattle.facts.proofs.Drawing.{lone_drawn}
 use Rattle.facts.proofs.rigs.lone_node.Goals as goal

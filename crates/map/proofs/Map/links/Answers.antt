@@ -1,30 +1,20 @@
-use Rattle.std.proofs.Common.{◌≡◌, refl, ap, arith}
-use Rattle.marks.specs.Below.{sum_below}
-use Rattle.marks.proofs.Below.{sum_more}
+use Rattle.std.proofs.Common.{rules, tests, arith}
+use Rattle.marks.proofs.Below.{sum_le}
+use Rattle.marks.proofs.Ranges.{sum_of_range, sum_of_range_fits}
 use Rattle.map.specs.View.{degree, nodes}
 use Rattle.map.proofs.Counts.{twice_links, degree_le}
 use Rattle.map.proofs.Map.links.Goals as goal
 
-pub overflow_add-ends : goal.overflow_add-ends
-overflow_add-ends c = let m = c.args.self.now.most in omega (arith, c.loop-n.invariant.1)
-
-pub loop-n-init : goal.loop-n-init
-unfolding sum_below
-loop-n-init c = (refl, omega arith)
-
-pub loop-n-preserved : goal.loop-n-preserved
-loop-n-preserved c =
+pub sum-ends-requires-clause-fits : goal.sum-ends-requires-clause-fits
+sum-ends-requires-clause-fits c =
     let m = c.args.self.now in
-    let s = sum_more (degree m) c.loop-n.n in
-    let k = degree_le m c.loop-n.n in
-    let i = c.loop-n.invariant in
-    (omega (arith, c.degree.ensures), omega (arith, c.degree.ensures))
+    let few = m.most in
+    let l = sum_le (degree m) 64 (nodes m) (λ i _. degree_le m i) in
+    sum_of_range_fits (degree m) (nodes m) _ (cc) c.map.ensures.closure (λ x r q k. search (rules, tests)) (omega arith)
 
 pub returns : goal.returns
 returns c =
     let m = c.args.self.now in
-    let e : c.loop-n.n ≡ nodes m = omega arith in
-    let s = ap (sum_below (degree m)) e in
+    let e = sum_of_range (degree m) (nodes m) _ c.sum-ends.ensures.ran (cc) c.map.ensures.closure (λ x r q k. search (rules, tests)) in
     let t = twice_links m in
-    let i = c.loop-n.invariant.0 in
     omega arith

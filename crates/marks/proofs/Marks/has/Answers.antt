@@ -1,5 +1,5 @@
-use Rattle.std.proofs.Common.{ℕ, ◌/◌, ◌^◌, ◌<◌, ◌≤◌, eqb, sym, ap, ◌∙◌, arith}
-use lib.Bits.{and_mask}
+use Rattle.std.proofs.Common.{ℕ, ◌^◌, ◌<◌, ◌≤◌, eqb, sym, ap, ◌∙◌, arith}
+use Rattle.std.proofs.lemmas.Nat.Bits.{shr_and_one}
 use Rattle.std.proofs.lemmas.Bool.{le-ltb}
 use Rattle.marks.specs.View.{bit}
 use Rattle.marks.proofs.Digits.{bit_past}
@@ -7,7 +7,7 @@ use Rattle.marks.proofs.Marks.has.Goals as goal
 
 pub returns-then-i-lt-LIMIT : goal.returns-then-i-lt-LIMIT
 unfolding bit
-returns-then-i-lt-LIMIT c = ap (λ (x : ℕ). eqb x 1) (and_mask (c.args.self.bits / 2 ^ c.args.i) 1)
+returns-then-i-lt-LIMIT c = ap (λ (x : ℕ). eqb x 1) (shr_and_one c.args.self.bits c.args.i)
 
 pub returns-else-i-lt-LIMIT : goal.returns-else-i-lt-LIMIT
 returns-else-i-lt-LIMIT c =

@@ -1,7 +1,0 @@
-use Rattle.std.proofs.Common.{◌≡◌}
-use Rattle.map.specs.View.{net}
-use Rattle.facts.specs.Paths.{line}
-use Rattle.facts.proofs.maps.path.Given as goal
-
-abbrev pub invariant-loop-a : goal.invariant-loop-a
-invariant-loop-a l = net l.map ≡ line l.count l.a
