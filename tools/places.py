@@ -40,6 +40,18 @@ def twins(files):
             if name not in ('new', 'main') or name == 'main']
 
 
+def plain_types(files):
+    """Public enums and structs that do not derive Debug, PartialEq and Eq."""
+    found = []
+    for path, text in files.items():
+        above = ''
+        for number, line in enumerate(text.splitlines(), 1):
+            if re.match(r'pub (enum|struct) \w+', line) and not {'Debug', 'PartialEq', 'Eq'} <= set(re.findall(r'\w+', above)):
+                found.append((f'{path}:{number}', line))
+            above = line if line.startswith('#[derive') else ''
+    return found
+
+
 def repeated_clauses(files):
     """Facts that three requires or ensures or more state, once their own names are taken off."""
     facts = collections.defaultdict(list)
@@ -49,16 +61,19 @@ def repeated_clauses(files):
 
 
 POINTS = {
-    '1 numbers for kinds': lambda f: lines(f, r'\bkind\b\s*(:|==|>)|\bx\.kind\b|kind: u8|Result<u8, Refusal>|send\w*\([^)]*, \d,'),
-    '1 success as a bool': lambda f: lines(f, r'fn (joined|take|add|try_\w+)\b.*-> bool'),
-    '1 matches on Ok, Err, Some and None': lambda f: lines(f, r'^(Ok|Err|Some)\(.*\) =>|^\s+(Ok|Err|Some)\(.*\) =>'),
+    '1 numbers for kinds, draws, phases': lambda f: lines(
+        f, r'\bkind: (u8|\d)|\bkind (==|>) \d|match x\.kind|\bsend\w*\(.*, \d, |Ok\(x\.kind\)|^\d => self\.on_|Result<u8, Refusal>.*\bdeliver'
+           r'|(deliver|receive)<.*Result<u8|(Delivered|deliveries: \[|answer: )\(?Result<u8|(Lottery|Phase)::\w+ => \(?\d'),
+    '1 success as a bool': lambda f: lines(f, r'fn .*&mut .*-> bool'),
+    '1 Ok, Err and Some taken apart by match': lambda f: lines(f, r'^\s*(Ok|Err|Some)\(.*\) =>'),
+    '1 enums and structs without Debug, PartialEq, Eq': plain_types,
     '2 functions of one name': twins,
     '3 loops over a range or with while': lambda f: lines(f, r'\bfor \w+ in [^{]*\.\.|\bwhile\b'),
     '4 equality, conversion and printing by hand': lambda f: lines(f, r'impl PartialEq|fn (number|word|push_number)\b'),
     '4 casts': lambda f: lines(f, r'\bas (u8|u16|u32|u64|usize|char)\b'),
     '5 facts in three clauses or more': repeated_clauses,
     '6 arrays of a fixed size': lambda f: lines(f, r'\[[^\[\]]*; (\d+|[A-Z]+)\]'),
-    '6 a length beside': lambda f: lines(f, r'^(pub |pub\(crate\) )?len: usize|^\s+len: usize|, usize\)'),
+    '6 a length beside': lambda f: lines(f, r'^\s*(pub |pub\(crate\) )?len: usize|\], usize\)'),
     '7 matches that choose a step': lambda f: lines(f, r'=> \w*(self|rig)\.\w+\(|=> Answer::'),
     '7 tables of functions': lambda f: lines(f, r'\bfn\(|dyn '),
 }
