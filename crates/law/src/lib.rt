@@ -17,7 +17,7 @@ pub enum Call {
 }
 
 /// What a call answers.
-#[derive(Clone, Copy)]
+#[derive(Clone, Copy, Debug, PartialEq, Eq)]
 pub enum Answer {
     /// What came of a draw.
     Drawn(Result<Lottery, Refusal>),
