@@ -4,7 +4,7 @@ use Rattle.job.proofs.Rooms.{rows_none, rows_more}
 use Rattle.job.proofs.listing.push_rows.Goals as goal
 
 pub loop-k-init : goal.loop-k-init
-loop-k-init c = rows_none c.args.rig.now.nodes (written c.args.text.now) (simp length-take (let w = c.args.text.now.within in omega arith))
+loop-k-init c = rows_none c.args.rig.now.nodes (written c.args.text.now) (simp length-take (let w = c.args.text.now.bytes.within in omega arith))
 
 pub loop-k-preserved : goal.loop-k-preserved
 loop-k-preserved c =
