@@ -1,1 +1,3 @@
+pub mod Complete
+pub mod Links
 pub mod Paths

@@ -6,15 +6,10 @@ use text::Text;
 const PATH: [u8; 80] =
     *b"N\x03\0\0\0\0\0\0L\0\x01\0\0\0\0\0L\x01\x02\0\0\0\0\0D\x01\0\0\0\0\0\x01M\0\0\0\0\0\0\x06D\0\0\0\0\0\0\x01M\0\0\0\0\0\0\x03D\x02\0\0\0\0\0\x01M\0\0\0\0\0\0\x03D\x01\0\0\0\0\0\x01";
 
-// How long the listing is, or the refusal's number and its index.
-fn answer(outcome: Result<usize, Refusal>) -> Result<usize, (u8, Option<usize>)> {
-    outcome.map_err(|refusal| (u8::from(refusal), refusal.index()))
-}
-
 #[test]
 fn the_listed_job(rt: HostRuntime) {
     let mut buffer = [7u8; 1030];
-    assert_eq!(rt; answer(run(&PATH, &mut buffer)), Ok(35));
+    assert_eq!(rt; run(&PATH, &mut buffer), Ok(35));
     let listing = b"0 2 2 1\n1 1 1 1\n2 3 3 1\nend 12 1 3\n".as_slice();
     assert_eq!(rt; &buffer[0..35], listing);
     assert_eq!(rt; print(&PATH).as_bytes(), listing);
@@ -24,15 +19,15 @@ fn the_listed_job(rt: HostRuntime) {
 #[test]
 fn buffers(rt: HostRuntime) {
     let mut short = [7u8; 1023];
-    assert_eq!(rt; answer(run(&PATH, &mut short)), Err((1, None)));
-    assert_eq!(rt; answer(run(b"torn", &mut short)), Err((1, None)));
+    assert_eq!(rt; run(&PATH, &mut short), Err(Refusal::Short));
+    assert_eq!(rt; run(b"torn", &mut short), Err(Refusal::Short));
     let mut exact = [7u8; 1024];
-    assert_eq!(rt; answer(run(&PATH[0..79], &mut exact)), Err((13, None)));
-    assert_eq!(rt; answer(run(&PATH[8..80], &mut exact)), Err((14, Some(0))));
-    assert_eq!(rt; answer(run(&[], &mut exact)), Err((14, Some(0))));
+    assert_eq!(rt; run(&PATH[0..79], &mut exact), Err(Refusal::Torn));
+    assert_eq!(rt; run(&PATH[8..80], &mut exact), Err(Refusal::Record(0)));
+    assert_eq!(rt; run(&[], &mut exact), Err(Refusal::Record(0)));
     assert_eq!(rt; short, [7; 1023]);
     assert_eq!(rt; exact, [7; 1024]);
-    assert_eq!(rt; answer(run(&PATH[0..8], &mut exact)), Ok(34));
+    assert_eq!(rt; run(&PATH[0..8], &mut exact), Ok(34));
     assert_eq!(rt;
         &exact[0..35],
         b"0 0 0 0\n1 0 0 0\n2 0 0 0\nend 0 0 0\n\x07".as_slice()

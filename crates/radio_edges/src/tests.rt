@@ -2,27 +2,11 @@ ghost use Rattle.std.specs.Prelude.{[], None};
 ghost use Rattle.radio.specs.Ways.{Ways};
 ghost use Rattle.std.proofs.Common.{rules};
 
-use marks::Marks;
 use radio::{CoinRadio, Kind, Message, RackQueue, Radio, UnknownKind, put_all, step};
 
 // A message that is told from others by its round.
 fn numbered(round: u16) -> Message {
-    Message {
-        kind: Kind::Request.into(),
-        sender: 0,
-        receiver: 1,
-        round,
-        slot: 0,
-        slots: Marks::empty(),
-    }
-}
-
-// The round of the next message, or 0 if nothing came.
-fn next_round<R: Radio>(radio: &mut R) -> u16 {
-    match radio.take() {
-        Some(message) => message.round,
-        None => 0,
-    }
+    Message::new(Kind::Request, round, 0, 1)
 }
 
 // Puts in the messages numbered from 1 to `last`.
@@ -32,15 +16,9 @@ fn fill<R: Radio>(radio: &mut R, last: u16) {
     }
 }
 
-// How many messages come before nothing does, of at most 1,000.
-fn drain<R: Radio>(radio: &mut R) -> u16 {
-    let mut count = 0;
-    for _ in 0..1000 {
-        if next_round(radio) != 0 {
-            count = u16::min(count, 999) + 1;
-        }
-    }
-    count
+// How often a message comes, of 1,000 times.
+fn drain<R: Radio>(radio: &mut R) -> usize {
+    (0..1000).filter(|_| radio.take().is_some()).count()
 }
 
 // A radio that loses everything, which the air rule admits.
@@ -70,23 +48,18 @@ impl Radio for DeafRadio {
 #[test]
 fn the_queue(rt: HostRuntime) {
     let mut queue = RackQueue::new();
-    assert_eq!(rt; next_round(&mut queue), 0);
-    put_all(&mut queue, &[numbered(7), numbered(9), numbered(8)]);
-    assert_eq!(rt; next_round(&mut queue), 7);
+    assert_eq!(rt; queue.take(), None);
+    put_all(&mut queue, &[7, 9, 8].map(numbered));
+    assert_eq!(rt; queue.take(), Some(numbered(7)));
     queue.put(numbered(7));
-    assert_eq!(rt;
-        (
-            next_round(&mut queue),
-            next_round(&mut queue),
-            next_round(&mut queue),
-            next_round(&mut queue),
-        ),
-        (9, 8, 7, 0)
-    );
+    for round in [9, 8, 7] {
+        assert_eq!(rt; queue.take(), Some(numbered(round)));
+    }
+    assert_eq!(rt; queue.take(), None);
     for (last, left) in [(255, 255), (256, 256), (257, 256)] {
         let mut queue = RackQueue::new();
         fill(&mut queue, last);
-        assert_eq!(rt; next_round(&mut queue), 1);
+        assert_eq!(rt; queue.take(), Some(numbered(1)));
         assert_eq!(rt; drain(&mut queue), left - 1);
     }
 }
@@ -103,15 +76,18 @@ fn the_generator(rt: HostRuntime) {
 #[test]
 fn the_coin_radio(rt: HostRuntime) {
     let mut coin = CoinRadio::new(0);
-    assert_eq!(rt; next_round(&mut coin), 0);
+    assert_eq!(rt; coin.take(), None);
     fill(&mut coin, 12);
-    for round in [5, 1, 12, 9, 2, 3, 8, 7, 11, 10, 5, 4, 0, 0] {
-        assert_eq!(rt; next_round(&mut coin), round);
+    for round in [5, 1, 12, 9, 2, 3, 8, 7, 11, 10, 5, 4] {
+        assert_eq!(rt; coin.take(), Some(numbered(round)));
+    }
+    for _ in 0..2 {
+        assert_eq!(rt; coin.take(), None);
     }
     let mut full = CoinRadio::new(5);
     fill(&mut full, 300);
     for round in [60, 150, 119, 235, 104, 118] {
-        assert_eq!(rt; next_round(&mut full), round);
+        assert_eq!(rt; full.take(), Some(numbered(round)));
     }
 }
 

@@ -1,27 +1,12 @@
 use benches::path;
 use law::{Answer, Call};
-use radio::{CoinRadio, RackQueue};
+use radio::{CoinRadio, Kind, RackQueue};
 use refusal::Refusal;
-use rig::Rig;
-use runs::{Performed, audit, perform};
+use rig::{Lottery, Rig};
+use runs::{audit, perform};
 use schedule::Verdict;
 use std::array;
 use std::test::Fail;
-
-// An answer as a number: what the call answered, or 100 more than its refusal's.
-fn number(answer: Answer) -> u8 {
-    let told = match answer {
-        Answer::Drawn(outcome) => outcome.map(|lottery| u8::from(lottery)),
-        Answer::Delivered(outcome) => outcome.map(|came| came.map_or(0, |kind| kind.into())),
-        Answer::Nudged(outcome) => outcome,
-    };
-    told.unwrap_or_else(|refusal| u8::from(refusal).saturating_add(100))
-}
-
-// The number of the refusal of a list of calls, or 0.
-fn refused(outcome: Result<Performed, Refusal>) -> u8 {
-    outcome.err().map_or(0, |refusal| u8::from(refusal))
-}
 
 #[test]
 fn refusals_are_part_of_a_run(rt: HostRuntime) -> Result<(), Fail> {
@@ -48,11 +33,27 @@ fn refusals_are_part_of_a_run(rt: HostRuntime) -> Result<(), Fail> {
         |refusal| Fail::new(refusal.word()),
     )?;
     assert_eq!(rt;
-        answers.map(number),
-        [103, 111, 0, 1, 109, 1, 1, 1, 2, 2, 108, 4, 4, 0, 77]
+        answers,
+        [
+            Answer::Drawn(Err(Refusal::Node)),
+            Answer::Nudged(Err(Refusal::Quiet)),
+            Answer::Drawn(Ok(Lottery::Lost)),
+            Answer::Drawn(Ok(Lottery::Asked)),
+            Answer::Drawn(Err(Refusal::Busy)),
+            Answer::Nudged(Ok(1)),
+            Answer::Delivered(Ok(Some(Kind::Request))),
+            Answer::Delivered(Ok(Some(Kind::Request))),
+            Answer::Delivered(Ok(Some(Kind::Grant))),
+            Answer::Delivered(Ok(Some(Kind::Grant))),
+            Answer::Drawn(Err(Refusal::Settled)),
+            Answer::Delivered(Ok(Some(Kind::Release))),
+            Answer::Delivered(Ok(Some(Kind::Release))),
+            Answer::Delivered(Ok(None)),
+            Answer::Nudged(Ok(77)),
+        ]
     );
     assert_eq!(rt; (done.decided, order[0], order[1]), (1, 0, 99));
-    assert!(rt; matches!(audit(&done.rig, &queue), Ok(Verdict::Accepted(1))));
+    assert_eq!(rt; audit(&done.rig, &queue), Ok(Verdict::Accepted(1)));
     Ok(())
 }
 
@@ -78,7 +79,7 @@ fn a_path_over_the_coin_radio(rt: HostRuntime) -> Result<(), Fail> {
     Ok(())
 }
 
-// Tables shorter than the calls are refused by 1, and nothing is called; no calls need no table.
+// Tables shorter than the calls are refused, and nothing is called; no calls need no table.
 #[test]
 fn short_tables(rt: HostRuntime) {
     let calls = [Call::Draw(0, 1), Call::Deliver];
@@ -86,15 +87,15 @@ fn short_tables(rt: HostRuntime) {
     let mut answers = [Answer::Nudged(Ok(5)); 2];
     let mut order = [9; 2];
     let few = perform(&path(2), &mut queue, &calls, &mut answers[0..1], &mut order);
-    assert_eq!(rt; refused(few), 1);
+    assert_eq!(rt; few.err(), Some(Refusal::Short));
     let few = perform(&path(2), &mut queue, &calls, &mut answers, &mut order[0..1]);
-    assert_eq!(rt; refused(few), 1);
+    assert_eq!(rt; few.err(), Some(Refusal::Short));
     let none = perform(&path(2), &mut queue, &calls, &mut [], &mut []);
-    assert_eq!(rt; refused(none), 1);
-    assert_eq!(rt; (answers.map(number), order), ([5, 5], [9, 9]));
+    assert_eq!(rt; none.err(), Some(Refusal::Short));
+    assert_eq!(rt; (answers, order), ([Answer::Nudged(Ok(5)); 2], [9, 9]));
     let mut rig = Rig::new();
     rig.open(&path(2));
-    assert_eq!(rt; number(Answer::Delivered(rig.deliver(&mut queue))), 0);
+    assert_eq!(rt; rig.deliver(&mut queue), Ok(None));
     let done = perform(&path(3), &mut queue, &[], &mut [], &mut []);
     assert!(rt; done.is_ok_and(|done| done.decided == 0));
 }

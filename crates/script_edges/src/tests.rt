@@ -1,11 +1,6 @@
+use refusal::Refusal;
 use script::{Event, read};
 use std::test::Fail;
-
-// Why a job is refused: the refusal's number, and its index if it has one; `None` for a job that is read.
-fn refused(job: &[u8]) -> Option<(u8, Option<usize>)> {
-    let refusal = read(job).err()?;
-    Some((u8::from(refusal), refusal.index()))
-}
 
 // The count of nodes, the number of links and the seed that a job sets up, or `None` if it is refused.
 fn set_up(job: &[u8]) -> Option<(u8, u16, Option<u32>)> {
@@ -23,7 +18,7 @@ fn put(job: &mut [u8], place: usize, record: &[u8; 8]) {
 #[test]
 fn bad_at_the_first_place(rt: HostRuntime) -> Result<(), Fail> {
     let mut job = *b"N\x03\0\0\0\0\0\0L\0\x01\0\0\0\0\0M\0\0\0\0\0\0\x01";
-    assert_eq!(rt; refused(&job), None);
+    assert_eq!(rt; read(&job).err(), None);
     for first in [
         b"N\0\0\0\0\0\0\0",
         b"N\x41\0\0\0\0\0\0",
@@ -40,10 +35,10 @@ fn bad_at_the_first_place(rt: HostRuntime) -> Result<(), Fail> {
         b"\0\0\0\0\0\0\0\0",
     ] {
         put(&mut job, 0, first);
-        assert_eq!(rt; refused(&job), Some((14, Some(0))));
+        assert_eq!(rt; read(&job).err(), Some(Refusal::Record(0)));
     }
     put(&mut job, 0, b"N\x40\0\0\0\0\0\0");
-    assert_eq!(rt; refused(&job), None);
+    assert_eq!(rt; read(&job).err(), None);
     Ok(())
 }
 
@@ -51,7 +46,7 @@ fn bad_at_the_first_place(rt: HostRuntime) -> Result<(), Fail> {
 fn bad_at_a_later_place(rt: HostRuntime) -> Result<(), Fail> {
     let good =
         *b"N\x03\0\0\0\0\0\0L\0\x01\0\0\0\0\0L\x01\x02\0\0\0\0\0D\xFF\0\0\0\0\0\x01R\xFF\0\0\0\0\0\0";
-    assert_eq!(rt; refused(&good), None);
+    assert_eq!(rt; read(&good).err(), None);
     for bad in [
         b"N\x03\0\0\0\0\0\0",
         b"C\x01\0\0\0\0\0\x01",
@@ -81,7 +76,7 @@ fn bad_at_a_later_place(rt: HostRuntime) -> Result<(), Fail> {
         let mut job = good;
         for place in [4, 2, 1] {
             put(&mut job, place, bad);
-            assert_eq!(rt; refused(&job), Some((14, Some(place))));
+            assert_eq!(rt; read(&job).err(), Some(Refusal::Record(place)));
         }
     }
     Ok(())
@@ -90,66 +85,28 @@ fn bad_at_a_later_place(rt: HostRuntime) -> Result<(), Fail> {
 #[test]
 fn what_may_stand_where(rt: HostRuntime) -> Result<(), Fail> {
     let mut job = *b"N\x03\0\0\0\0\0\0........________";
+    let second_is_bad = Some(Refusal::Record(1));
+    let third_is_bad = Some(Refusal::Record(2));
     for (second, third, refusal) in [
         (b"C\0\0\0\0\0\0\x07", b"L\0\x01\0\0\0\0\0", None),
         (b"C\0\0\0\0\0\0\x07", b"D\0\0\0\0\0\0\x01", None),
-        (
-            b"C\0\0\0\0\0\0\x07",
-            b"C\0\0\0\0\0\0\x07",
-            Some((14, Some(2))),
-        ),
-        (
-            b"L\0\x01\0\0\0\0\0",
-            b"C\0\0\0\0\0\0\x07",
-            Some((14, Some(2))),
-        ),
-        (
-            b"D\0\0\0\0\0\0\x01",
-            b"C\0\0\0\0\0\0\x07",
-            Some((14, Some(2))),
-        ),
-        (
-            b"N\x03\0\0\0\0\0\0",
-            b"L\0\x01\0\0\0\0\0",
-            Some((14, Some(1))),
-        ),
-        (
-            b"C\0\0\0\0\0\0\x07",
-            b"N\x03\0\0\0\0\0\0",
-            Some((14, Some(2))),
-        ),
+        (b"C\0\0\0\0\0\0\x07", b"C\0\0\0\0\0\0\x07", third_is_bad),
+        (b"L\0\x01\0\0\0\0\0", b"C\0\0\0\0\0\0\x07", third_is_bad),
+        (b"D\0\0\0\0\0\0\x01", b"C\0\0\0\0\0\0\x07", third_is_bad),
+        (b"N\x03\0\0\0\0\0\0", b"L\0\x01\0\0\0\0\0", second_is_bad),
+        (b"C\0\0\0\0\0\0\x07", b"N\x03\0\0\0\0\0\0", third_is_bad),
         (b"L\0\x01\0\0\0\0\0", b"L\x01\0\0\0\0\0\0", None),
-        (
-            b"D\0\0\0\0\0\0\x01",
-            b"L\0\x01\0\0\0\0\0",
-            Some((14, Some(2))),
-        ),
-        (
-            b"M\0\0\0\0\0\0\x01",
-            b"L\0\x01\0\0\0\0\0",
-            Some((14, Some(2))),
-        ),
-        (
-            b"R\0\0\0\0\0\0\0",
-            b"L\0\x01\0\0\0\0\0",
-            Some((14, Some(2))),
-        ),
+        (b"D\0\0\0\0\0\0\x01", b"L\0\x01\0\0\0\0\0", third_is_bad),
+        (b"M\0\0\0\0\0\0\x01", b"L\0\x01\0\0\0\0\0", third_is_bad),
+        (b"R\0\0\0\0\0\0\0", b"L\0\x01\0\0\0\0\0", third_is_bad),
         (b"D\xFF\0\0\xFF\xFF\xFF\xFF", b"R\xFF\0\0\0\0\0\0", None),
         (b"M\0\0\0\0\0\0\x01", b"M\0\0\0\0\0\x10\0", None),
-        (
-            b"M\0\0\0\0\0\0\0",
-            b"M\0\0\0\0\0\x10\x01",
-            Some((14, Some(1))),
-        ),
-        (
-            b"M\0\0\0\0\0\x10\0",
-            b"M\0\0\0\0\0\x10\x01",
-            Some((14, Some(2))),
-        ),
+        (b"M\0\0\0\0\0\0\0", b"M\0\0\0\0\0\x10\x01", second_is_bad),
+        (b"M\0\0\0\0\0\x10\0", b"M\0\0\0\0\0\x10\x01", third_is_bad),
     ] {
         put(&mut job, 1, second);
         put(&mut job, 2, third);
-        assert_eq!(rt; refused(&job), refusal);
+        assert_eq!(rt; read(&job).err(), refusal);
     }
     Ok(())
 }
@@ -162,20 +119,20 @@ fn lengths_of_jobs(rt: HostRuntime) -> Result<(), Fail> {
     }
     put(&mut job, 0, b"N\x01\0\0\0\0\0\0");
     for (length, refusal) in [
-        (0, Some((14, Some(0)))),
-        (7, Some((13, None))),
+        (0, Some(Refusal::Record(0))),
+        (7, Some(Refusal::Torn)),
         (8, None),
-        (12, Some((13, None))),
-        (32_767, Some((13, None))),
+        (12, Some(Refusal::Torn)),
+        (32_767, Some(Refusal::Torn)),
         (32_768, None),
-        (32_769, Some((2, None))),
-        (32_776, Some((2, None))),
+        (32_769, Some(Refusal::Count)),
+        (32_776, Some(Refusal::Count)),
     ] {
         assert!(rt; length <= job.len());
-        assert_eq!(rt; refused(&job[0..length]), refusal);
+        assert_eq!(rt; read(&job[0..length]).err(), refusal);
     }
     put(&mut job, 4095, b"L\0\x01\0\0\0\0\0");
-    assert_eq!(rt; refused(&job[0..32_768]), Some((14, Some(4095))));
+    assert_eq!(rt; read(&job[0..32_768]).err(), Some(Refusal::Record(4095)));
     Ok(())
 }
 
