@@ -1,21 +1,10 @@
+use benches::full;
 use map::Map;
 use marks::Marks;
 use records::{Reader, Record, build};
 use refusal::Refusal;
 use report::report;
 use std::test::Fail;
-
-// A refusal's number, or 0 for a call that was accepted.
-fn number_of(answer: Result<(), Refusal>) -> u8 {
-    answer.err().map_or(0, |refusal| u8::from(refusal))
-}
-
-// A refusal's number and index, or zeros for a job that was built.
-fn verdict(job: &[u8]) -> (u8, usize) {
-    build(job).err().map_or((0, 0), |refusal| {
-        (u8::from(refusal), refusal.index().unwrap_or(0))
-    })
-}
 
 // A map of so many nodes with these links; what the map refuses is left out.
 fn map_of(count: u8, links: &[(u8, u8)]) -> Map {
@@ -30,6 +19,29 @@ fn map_of(count: u8, links: &[(u8, u8)]) -> Map {
 // How many contenders each of the first four nodes has.
 fn contender_counts(map: &Map) -> [u8; 4] {
     [0, 1, 2, 3].map(|node| map.contenders(node).len())
+}
+
+#[test]
+fn refusals_by_number(rt: HostRuntime) {
+    for (refusal, number) in [
+        (Refusal::Short, 1),
+        (Refusal::Count, 2),
+        (Refusal::Node, 3),
+        (Refusal::SelfLink, 4),
+        (Refusal::Twice, 5),
+        (Refusal::Missing, 6),
+        (Refusal::Unlinked, 7),
+        (Refusal::Settled, 8),
+        (Refusal::Busy, 9),
+        (Refusal::Spent, 10),
+        (Refusal::Quiet, 11),
+        (Refusal::Foreign, 12),
+        (Refusal::Torn, 13),
+    ] {
+        assert_eq!(rt; (u8::from(refusal), refusal.index()), (number, None));
+    }
+    let record = Refusal::Record(4095);
+    assert_eq!(rt; (u8::from(record), record.index()), (14, Some(4095)));
 }
 
 #[test]
@@ -49,11 +61,11 @@ fn marks_at_the_ends(rt: HostRuntime) {
 fn counts_of_nodes(rt: HostRuntime) {
     let mut map = map_of(3, &[(0, 1)]);
     for count in [0, 65, 255] {
-        assert_eq!(rt; number_of(map.open(count)), 2);
+        assert_eq!(rt; map.open(count), Err(Refusal::Count));
         assert_eq!(rt; (map.count(), map.links()), (3, 1));
     }
     for count in [1, 64] {
-        assert_eq!(rt; number_of(map.open(count)), 0);
+        assert_eq!(rt; map.open(count), Ok(()));
         assert_eq!(rt; (map.count(), map.links()), (count, 0));
     }
 }
@@ -61,20 +73,20 @@ fn counts_of_nodes(rt: HostRuntime) {
 #[test]
 fn links_refused_and_repeated(rt: HostRuntime) {
     let mut map = map_of(3, &[(0, 1)]);
-    for (a, b, number) in [
-        (1, 1, 4),
-        (0, 3, 3),
-        (3, 0, 3),
-        (3, 3, 3),
-        (255, 0, 3),
-        (1, 0, 0),
-        (0, 1, 0),
+    for (a, b, answer) in [
+        (1, 1, Err(Refusal::SelfLink)),
+        (0, 3, Err(Refusal::Node)),
+        (3, 0, Err(Refusal::Node)),
+        (3, 3, Err(Refusal::Node)),
+        (255, 0, Err(Refusal::Node)),
+        (1, 0, Ok(())),
+        (0, 1, Ok(())),
     ] {
-        assert_eq!(rt; number_of(map.link(a, b)), number);
+        assert_eq!(rt; map.link(a, b), answer);
         assert_eq!(rt; map.links(), 1);
         assert!(rt; map.linked(0, 1) && map.linked(1, 0) && !map.linked(1, 2));
     }
-    assert_eq!(rt; number_of(map.link(2, 1)), 0);
+    assert_eq!(rt; map.link(2, 1), Ok(()));
     assert_eq!(rt; (map.degree(1), map.degree(2), map.links()), (2, 1, 2));
 }
 
@@ -91,14 +103,16 @@ fn contenders_of_small_maps(rt: HostRuntime) {
     assert_eq!(rt; path.contenders(4), Marks::empty());
 }
 
+// The loops stay, since they test that each link is accepted.
 #[test]
 fn a_full_map_of_64(rt: HostRuntime) {
     let mut map = map_of(64, &[]);
     for a in 0..64 {
         for b in 0..a {
-            assert_eq!(rt; number_of(map.link(a, b)), 0);
+            assert_eq!(rt; map.link(a, b), Ok(()));
         }
     }
+    assert_eq!(rt; map, full(64));
     assert_eq!(rt; map.links(), 2016);
     for n in 0..64 {
         assert_eq!(rt; (map.degree(n), map.contenders(n).len()), (63, 63));
@@ -113,18 +127,18 @@ fn lengths_of_jobs(rt: HostRuntime) -> Result<(), Fail> {
     }
     job[0..8].copy_from_slice(b"N\x02\0\0\0\0\0\0");
     let lengths = [
-        (0, 14),
-        (7, 13),
-        (8, 0),
-        (32_760, 0),
-        (32_767, 13),
-        (32_768, 0),
-        (32_769, 2),
-        (32_776, 2),
+        (0, Some(Refusal::Record(0))),
+        (7, Some(Refusal::Torn)),
+        (8, None),
+        (32_760, None),
+        (32_767, Some(Refusal::Torn)),
+        (32_768, None),
+        (32_769, Some(Refusal::Count)),
+        (32_776, Some(Refusal::Count)),
     ];
-    for (length, number) in lengths {
+    for (length, refusal) in lengths {
         let part = job.get(0..length).ok_or("no job of this length")?;
-        assert_eq!(rt; verdict(part), (number, 0));
+        assert_eq!(rt; build(part).err(), refusal);
     }
     Ok(())
 }
@@ -161,15 +175,15 @@ fn bad_first_records(rt: HostRuntime) {
         b"n\x03\0\0\0\0\0\0",
         b"C\0\0\0\0\0\0\x01",
     ] {
-        assert_eq!(rt; verdict(first), (14, 0));
+        assert_eq!(rt; build(first).err(), Some(Refusal::Record(0)));
     }
-    assert_eq!(rt; verdict(b"N\x40\0\0\0\0\0\0"), (0, 0));
+    assert_eq!(rt; build(b"N\x40\0\0\0\0\0\0").err(), None);
 }
 
 #[test]
 fn bad_later_records(rt: HostRuntime) {
     let mut job = *b"N\x03\0\0\0\0\0\0L\0\x01\0\0\0\0\0L\x01\x02\0\0\0\0\0L\x02\x02\0\0\0\0\0";
-    assert_eq!(rt; verdict(&job), (14, 3));
+    assert_eq!(rt; build(&job).err(), Some(Refusal::Record(3)));
     for second in [
         b"L\x01\x03\0\0\0\0\0",
         b"L\x03\x01\0\0\0\0\0",
@@ -182,7 +196,7 @@ fn bad_later_records(rt: HostRuntime) {
         b"\0\0\0\0\0\0\0\0",
     ] {
         job[16..24].copy_from_slice(second);
-        assert_eq!(rt; verdict(&job), (14, 2));
+        assert_eq!(rt; build(&job).err(), Some(Refusal::Record(2)));
     }
 }
 

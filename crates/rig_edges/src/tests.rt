@@ -26,7 +26,9 @@ fn release(round: u16, sender: u8, receiver: u8, slot: u8) -> Message {
 
 // How many of 1,000 deliveries bring a message.
 fn settle(rig: &mut Rig, queue: &mut RackQueue) -> usize {
-    (0..1000).filter(|_| matches!(rig.deliver(queue), Ok(Some(_)))).count()
+    (0..1000)
+        .filter(|_| matches!(rig.deliver(queue), Ok(Some(_))))
+        .count()
 }
 
 // One message to the rig.
@@ -38,7 +40,11 @@ fn post(rig: &mut Rig, x: Message) -> Result<Option<Kind>, Refusal> {
 
 #[test]
 fn lotteries_by_number(rt: HostRuntime) {
-    for (lottery, number) in [(Lottery::Lost, 0), (Lottery::Asked, 1), (Lottery::Decided, 2)] {
+    for (lottery, number) in [
+        (Lottery::Lost, 0),
+        (Lottery::Asked, 1),
+        (Lottery::Decided, 2),
+    ] {
         assert_eq!(rt; u8::from(lottery), number);
     }
 }
@@ -96,11 +102,19 @@ fn a_path_of_three(rt: HostRuntime) {
         (table[0], table[1], table[2], table[3], table[63]),
         (2, 1, 3, 0, 0)
     );
-    assert_eq!(rt; (rig.turn(0), rig.turn(1), rig.turn(2)), (Ok(2), Ok(1), Ok(3)));
+    assert_eq!(rt;
+        (rig.turn(0), rig.turn(1), rig.turn(2)),
+        (Ok(2), Ok(1), Ok(3))
+    );
     assert_eq!(rt; rig.map().count(), 3);
     assert_eq!(rt;
         (rig.slot(3), rig.turn(3), rig.round(3), rig.phase(3)),
-        (Err(Refusal::Node), Err(Refusal::Node), Err(Refusal::Node), Err(Refusal::Node))
+        (
+            Err(Refusal::Node),
+            Err(Refusal::Node),
+            Err(Refusal::Node),
+            Err(Refusal::Node)
+        )
     );
 }
 
@@ -111,7 +125,10 @@ fn both_request(rt: HostRuntime) {
     assert_eq!(rt; rig.draw(0, 1, &mut queue), Ok(Lottery::Asked));
     assert_eq!(rt; rig.draw(1, 1, &mut queue), Ok(Lottery::Asked));
     assert_eq!(rt; settle(&mut rig, &mut queue), 6);
-    assert_eq!(rt; (rig.phase(0), rig.phase(1)), (Ok(Phase::Idle), Ok(Phase::Idle)));
+    assert_eq!(rt;
+        (rig.phase(0), rig.phase(1)),
+        (Ok(Phase::Idle), Ok(Phase::Idle))
+    );
 }
 
 #[test]
@@ -119,7 +136,10 @@ fn a_late_grant(rt: HostRuntime) {
     let mut rig = path(2);
     let mut queue = RackQueue::new();
     assert_eq!(rt; rig.draw(0, 1, &mut queue), Ok(Lottery::Asked));
-    assert_eq!(rt; post(&mut rig, Message::new(Kind::Reject, 1, 1, 0)), Ok(Some(Kind::Reject)));
+    assert_eq!(rt;
+        post(&mut rig, Message::new(Kind::Reject, 1, 1, 0)),
+        Ok(Some(Kind::Reject))
+    );
     assert_eq!(rt; rig.draw(0, 1, &mut queue), Ok(Lottery::Asked));
     assert_eq!(rt; queue.take(), Some(Message::new(Kind::Request, 1, 0, 1)));
     assert_eq!(rt; queue.take(), Some(Message::new(Kind::Request, 2, 0, 1)));
@@ -147,7 +167,10 @@ fn requests_grants_and_nudges(rt: HostRuntime) {
     let mut queue = RackQueue::new();
     assert_eq!(rt; rig.nudge(1, &mut queue), Err(Refusal::Quiet));
     assert_eq!(rt; rig.nudge(3, &mut queue), Err(Refusal::Node));
-    assert_eq!(rt; post(&mut rig, release(9, 2, 1, 5)), Ok(Some(Kind::Release)));
+    assert_eq!(rt;
+        post(&mut rig, release(9, 2, 1, 5)),
+        Ok(Some(Kind::Release))
+    );
     for (round, sender) in [(7, 0), (7, 0), (8, 0), (7, 2)] {
         queue.put(Message::new(Kind::Request, round, sender, 1));
     }
@@ -167,12 +190,18 @@ fn requests_grants_and_nudges(rt: HostRuntime) {
         (7, 0, Phase::Idle),
     ] {
         let fail = Message::new(Kind::Fail, round, sender, 1);
-        assert_eq!(rt; (post(&mut rig, fail), rig.phase(1)), (Ok(Some(Kind::Fail)), Ok(phase)));
+        assert_eq!(rt;
+            (post(&mut rig, fail), rig.phase(1)),
+            (Ok(Some(Kind::Fail)), Ok(phase))
+        );
     }
     assert_eq!(rt; rig.draw(1, 1, &mut queue), Ok(Lottery::Asked));
     assert_eq!(rt; queue.take(), Some(Message::new(Kind::Request, 1, 1, 0)));
     assert_eq!(rt; queue.take(), Some(Message::new(Kind::Request, 1, 1, 2)));
-    assert_eq!(rt; post(&mut rig, grant(1, 0, 1, Marks::empty())), Ok(Some(Kind::Grant)));
+    assert_eq!(rt;
+        post(&mut rig, grant(1, 0, 1, Marks::empty())),
+        Ok(Some(Kind::Grant))
+    );
     assert_eq!(rt; rig.nudge(1, &mut queue), Ok(1));
     assert_eq!(rt; queue.take(), Some(Message::new(Kind::Request, 1, 1, 2)));
     assert_eq!(rt; queue.take(), None);
@@ -182,9 +211,18 @@ fn requests_grants_and_nudges(rt: HostRuntime) {
 fn foreign_messages(rt: HostRuntime) {
     let mut rig = path(3);
     for x in [
-        Message { kind: 0, ..release(1, 0, 1, 1) },
-        Message { kind: 6, ..release(1, 0, 1, 1) },
-        Message { kind: 255, ..release(1, 0, 1, 1) },
+        Message {
+            kind: 0,
+            ..release(1, 0, 1, 1)
+        },
+        Message {
+            kind: 6,
+            ..release(1, 0, 1, 1)
+        },
+        Message {
+            kind: 255,
+            ..release(1, 0, 1, 1)
+        },
         Message::new(Kind::Request, 1, 0, 2),
         Message::new(Kind::Request, 1, 1, 1),
         Message::new(Kind::Request, 1, 2, 3),
@@ -200,13 +238,25 @@ fn foreign_messages(rt: HostRuntime) {
         assert_eq!(rt; rig.phase(1), Ok(Phase::Idle));
         assert_eq!(rt; rig.nudge(1, &mut queue), Err(Refusal::Quiet));
     }
-    assert_eq!(rt; post(&mut rig, Message::new(Kind::Fail, 1, 0, 1)), Ok(Some(Kind::Fail)));
-    assert_eq!(rt; post(&mut rig, release(1, 0, 1, 1)), Ok(Some(Kind::Release)));
-    assert_eq!(rt; post(&mut rig, release(1, 0, 1, 64)), Ok(Some(Kind::Release)));
+    assert_eq!(rt;
+        post(&mut rig, Message::new(Kind::Fail, 1, 0, 1)),
+        Ok(Some(Kind::Fail))
+    );
+    assert_eq!(rt;
+        post(&mut rig, release(1, 0, 1, 1)),
+        Ok(Some(Kind::Release))
+    );
+    assert_eq!(rt;
+        post(&mut rig, release(1, 0, 1, 64)),
+        Ok(Some(Kind::Release))
+    );
     let mut queue = RackQueue::new();
     queue.put(Message::new(Kind::Request, 1, 0, 1));
     assert_eq!(rt; rig.deliver(&mut queue), Ok(Some(Kind::Request)));
-    assert_eq!(rt; queue.take(), Some(grant(1, 1, 0, Marks::empty().with(0).with(63))));
+    assert_eq!(rt;
+        queue.take(),
+        Some(grant(1, 1, 0, Marks::empty().with(0).with(63)))
+    );
 }
 
 #[test]
@@ -218,12 +268,21 @@ fn all_slots_taken(rt: HostRuntime) {
     assert_eq!(rt; queue.take(), Some(Message::new(Kind::Request, 1, 0, 1)));
     queue.put(grant(1, 1, 0, all));
     assert_eq!(rt; rig.deliver(&mut queue), Ok(Some(Kind::Grant)));
-    assert_eq!(rt; (rig.phase(0), rig.slot(0), rig.turn(0)), (Ok(Phase::Idle), Ok(0), Ok(0)));
+    assert_eq!(rt;
+        (rig.phase(0), rig.slot(0), rig.turn(0)),
+        (Ok(Phase::Idle), Ok(0), Ok(0))
+    );
     assert_eq!(rt; queue.take(), Some(Message::new(Kind::Fail, 1, 0, 1)));
     assert_eq!(rt; queue.take(), None);
     assert_eq!(rt; rig.draw(0, 1, &mut queue), Ok(Lottery::Asked));
-    assert_eq!(rt; post(&mut rig, grant(2, 1, 0, all.without(63))), Ok(Some(Kind::Grant)));
-    assert_eq!(rt; (rig.phase(0), rig.slot(0), rig.turn(0)), (Ok(Phase::Release), Ok(64), Ok(1)));
+    assert_eq!(rt;
+        post(&mut rig, grant(2, 1, 0, all.without(63))),
+        Ok(Some(Kind::Grant))
+    );
+    assert_eq!(rt;
+        (rig.phase(0), rig.slot(0), rig.turn(0)),
+        (Ok(Phase::Release), Ok(64), Ok(1))
+    );
 }
 
 // Every round but the last is rejected.
@@ -233,14 +292,20 @@ fn the_last_round(rt: HostRuntime) {
     for round in 1..=65_534 {
         let mut queue = RackQueue::new();
         assert_eq!(rt; rig.draw(0, 1, &mut queue), Ok(Lottery::Asked));
-        assert_eq!(rt; post(&mut rig, Message::new(Kind::Reject, round, 1, 0)), Ok(Some(Kind::Reject)));
+        assert_eq!(rt;
+            post(&mut rig, Message::new(Kind::Reject, round, 1, 0)),
+            Ok(Some(Kind::Reject))
+        );
     }
     let mut queue = RackQueue::new();
     assert_eq!(rt; rig.draw(0, 0, &mut queue), Ok(Lottery::Lost));
     assert_eq!(rt; rig.draw(0, 1, &mut queue), Ok(Lottery::Asked));
     assert_eq!(rt; rig.round(0), Ok(65_535));
     assert_eq!(rt; rig.draw(0, 1, &mut queue), Err(Refusal::Busy));
-    assert_eq!(rt; post(&mut rig, Message::new(Kind::Reject, 65_535, 1, 0)), Ok(Some(Kind::Reject)));
+    assert_eq!(rt;
+        post(&mut rig, Message::new(Kind::Reject, 65_535, 1, 0)),
+        Ok(Some(Kind::Reject))
+    );
     assert_eq!(rt; rig.draw(0, 1, &mut queue), Err(Refusal::Spent));
     assert_eq!(rt; rig.draw(0, 0, &mut queue), Err(Refusal::Spent));
     assert_eq!(rt; (rig.round(0), rig.phase(0)), (Ok(65_535), Ok(Phase::Idle)));

@@ -29,9 +29,7 @@ fn refusals_are_part_of_a_run(rt: HostRuntime) -> Result<(), Fail> {
     let mut queue = RackQueue::new();
     let mut answers = [Answer::Nudged(Ok(77)); 15];
     let mut order = [99; 15];
-    let done = perform(&path(2), &mut queue, &calls, &mut answers, &mut order).map_err(
-        |refusal| Fail::new(refusal.word()),
-    )?;
+    let done = perform(&path(2), &mut queue, &calls, &mut answers, &mut order)?;
     assert_eq!(rt;
         answers,
         [
@@ -71,9 +69,7 @@ fn a_path_over_the_coin_radio(rt: HostRuntime) -> Result<(), Fail> {
     let mut radio = CoinRadio::new(7);
     let mut answers = [Answer::Nudged(Ok(0)); 2400];
     let mut order = [0; 2400];
-    let done = perform(&path(6), &mut radio, &calls, &mut answers, &mut order).map_err(
-        |refusal| Fail::new(refusal.word()),
-    )?;
+    let done = perform(&path(6), &mut radio, &calls, &mut answers, &mut order)?;
     assert_eq!(rt; done.decided, 6);
     assert!(rt; matches!(audit(&done.rig, &radio), Ok(Verdict::Accepted(slot)) if slot <= 5));
     Ok(())

@@ -1,6 +1,5 @@
 use refusal::Refusal;
 use script::{Event, read};
-use std::test::Fail;
 
 // The count of nodes, the number of links and the seed that a job sets up, or `None` if it is refused.
 fn set_up(job: &[u8]) -> Option<(u8, u16, Option<u32>)> {
@@ -16,7 +15,7 @@ fn put(job: &mut [u8], place: usize, record: &[u8; 8]) {
 }
 
 #[test]
-fn bad_at_the_first_place(rt: HostRuntime) -> Result<(), Fail> {
+fn bad_at_the_first_place(rt: HostRuntime) {
     let mut job = *b"N\x03\0\0\0\0\0\0L\0\x01\0\0\0\0\0M\0\0\0\0\0\0\x01";
     assert_eq!(rt; read(&job).err(), None);
     for first in [
@@ -39,11 +38,10 @@ fn bad_at_the_first_place(rt: HostRuntime) -> Result<(), Fail> {
     }
     put(&mut job, 0, b"N\x40\0\0\0\0\0\0");
     assert_eq!(rt; read(&job).err(), None);
-    Ok(())
 }
 
 #[test]
-fn bad_at_a_later_place(rt: HostRuntime) -> Result<(), Fail> {
+fn bad_at_a_later_place(rt: HostRuntime) {
     let good =
         *b"N\x03\0\0\0\0\0\0L\0\x01\0\0\0\0\0L\x01\x02\0\0\0\0\0D\xFF\0\0\0\0\0\x01R\xFF\0\0\0\0\0\0";
     assert_eq!(rt; read(&good).err(), None);
@@ -79,11 +77,10 @@ fn bad_at_a_later_place(rt: HostRuntime) -> Result<(), Fail> {
             assert_eq!(rt; read(&job).err(), Some(Refusal::Record(place)));
         }
     }
-    Ok(())
 }
 
 #[test]
-fn what_may_stand_where(rt: HostRuntime) -> Result<(), Fail> {
+fn what_may_stand_where(rt: HostRuntime) {
     let mut job = *b"N\x03\0\0\0\0\0\0........________";
     let second_is_bad = Some(Refusal::Record(1));
     let third_is_bad = Some(Refusal::Record(2));
@@ -108,11 +105,10 @@ fn what_may_stand_where(rt: HostRuntime) -> Result<(), Fail> {
         put(&mut job, 2, third);
         assert_eq!(rt; read(&job).err(), refusal);
     }
-    Ok(())
 }
 
 #[test]
-fn lengths_of_jobs(rt: HostRuntime) -> Result<(), Fail> {
+fn lengths_of_jobs(rt: HostRuntime) {
     let mut job = [0u8; 32_776];
     for record in job.chunks_exact_mut(8) {
         record.copy_from_slice(b"R\xFF\0\0\0\0\0\0");
@@ -133,7 +129,6 @@ fn lengths_of_jobs(rt: HostRuntime) -> Result<(), Fail> {
     }
     put(&mut job, 4095, b"L\0\x01\0\0\0\0\0");
     assert_eq!(rt; read(&job[0..32_768]).err(), Some(Refusal::Record(4095)));
-    Ok(())
 }
 
 #[test]
