@@ -24,10 +24,12 @@ impl Dice {
     pub fn below(&mut self, bound: usize) -> usize
         ensures { result ≤ bound - 1 }
     {
+        // A cast, since no `From` leads from u32 to usize.
         (self.word() as usize / 16).checked_rem(bound).unwrap_or(0)
     }
 
     pub fn byte(&mut self, bound: u8) -> u8 {
+        // A cast: the number is below a byte, and `try_from` would bring an error that never comes.
         self.below(usize::from(bound)) as u8
     }
 

@@ -11,7 +11,8 @@ ghost use Rattle.drive.specs.Sure.{Sure};
 use radio::Radio;
 use rig::Rig;
 
-// Draws node `a` with 1, and then delivers until nothing comes; how many messages came.
+// Draws node `a` with 1, and then delivers until nothing comes; how many messages came. That the map
+// stays is a clause of its own, here and below: no type holds both rigs.
 fn settle<R: Radio>(rig: &mut Rig, radio: &mut R, a: u8) -> u32
     requires sure { Sure R.ways }
     requires resting { Resting R.ways rig.old.map rig.old.nodes (R.state radio.old) }

@@ -48,6 +48,7 @@ fn other_maps(rt: HostRuntime) {
 
 #[test]
 fn all_of_64_linked(rt: HostRuntime) {
+    // A cast: it loses nothing, and `try_from` would bring an error that never comes.
     let order: [u8; 64] = array::from_fn(|i| 63 - i as u8);
     let mut table = [0u16; 64];
     assert_eq!(rt; drive(&full(64), &order, &mut table), Ok(12_096));

@@ -1,4 +1,5 @@
-//! The checker of slot tables as a library for C: what `host/slot_check.h` declares.
+//! The checker of slot tables as a library for C: what `host/slot_check.h` declares. It has the function
+//! of `host` once more, since a crate is a library for Rattle or one for C.
 #![tactic(auto)]
 
 ghost use Rattle.host.specs.Answer.{Answered};

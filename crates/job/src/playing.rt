@@ -55,6 +55,7 @@ impl Play {
         requires { Room self.old (calls event) }
         ensures { Went self.old self.new (R.state radio.new) (played R.ways self.old.rig.map event (stand self.old (R.state radio.old))) }
     {
+        // A match and no closure: which event comes is data.
         match event {
             Event::Draw(node, number) => {
                 let _ = self.call(radio, Call::Draw(node, number));

@@ -55,6 +55,7 @@ fn checks_on_a_path(rt: HostRuntime) {
 fn all_of_64_linked(rt: HostRuntime) {
     let map = full(64);
     let rule = NodeRule::new(&map);
+    // A cast: it loses nothing, and `try_from` would bring an error that never comes.
     let order: [u16; 64] = array::from_fn(|i| 63 - i as u16);
     let mut slots = [0u16; 64];
     assert_eq!(rt; plan(&rule, &order, &mut slots), Ok(()));

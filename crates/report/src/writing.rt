@@ -11,7 +11,8 @@ use schedule::Verdict;
 use std::array;
 use text::Text;
 
-// The number of pairs that contend, each counted once: each is seen from both of its ends.
+// The number of pairs that contend, each counted once: each is seen from both of its ends. `Map::links`
+// halves a sum too; what is summed differs, and the halving alone would be no function.
 fn contending_pairs(map: &Map) -> usize
     ensures { result ≡ contending_pairs map.now }
 {

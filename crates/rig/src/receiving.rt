@@ -73,6 +73,7 @@ impl Rig {
     {
         let delivery = self.accept(x)?;
         let node = self.nodes[x.receiver as usize];
+        // A match and no closure: which kind comes is data.
         match delivery.kind {
             Kind::Request => self.on_request(delivery, radio),
             Kind::Grant => self.on_grant(delivery, radio),

@@ -7,7 +7,8 @@ use law::{Answer, Call};
 use radio::Radio;
 use rig::Rig;
 
-/// Makes one call of a rig, over a radio.
+/// Makes one call of a rig, over a radio. The two travel apart, as in each call of a rig: the radio is
+/// the caller's, and any will do.
 pub fn make<R: Radio>(rig: &mut Rig, radio: &mut R, call: Call) -> Answer
     ensures map { rig.new.map ≡ rig.old.map }
     ensures nodes { rig.new.nodes ≡ nodes_after R.ways rig.old.map rig.old.nodes (R.state radio.old) call }
@@ -15,6 +16,7 @@ pub fn make<R: Radio>(rig: &mut Rig, radio: &mut R, call: Call) -> Answer
     ensures value { result ≡ answer_of R.ways rig.old.map rig.old.nodes (R.state radio.old) call }
     ensures single { (j k : ℕ) → Decides rig.old.nodes rig.new.nodes j → Decides rig.old.nodes rig.new.nodes k → j ≡ k }
 {
+    // A match and no closure: which call comes is data.
     match call {
         Call::Draw(node, number) => Answer::Drawn(rig.draw(node, number, radio)),
         Call::Deliver => Answer::Delivered(rig.deliver(radio)),

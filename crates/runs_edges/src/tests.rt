@@ -59,6 +59,7 @@ fn refusals_are_part_of_a_run(rt: HostRuntime) -> Result<(), Fail> {
 #[test]
 fn a_path_over_the_coin_radio(rt: HostRuntime) -> Result<(), Fail> {
     let calls: [Call; 2400] = array::from_fn(|i| {
+        // A cast: it loses nothing, and `try_from` would bring an error that never comes.
         let k = (i / 10 % 6) as u8;
         match i % 10 {
             0 => Call::Draw(k, 1),
