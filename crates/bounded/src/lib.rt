@@ -16,7 +16,7 @@ pub struct Bounded<T, const N: usize> {
     ghost within: { len ≤ N },
 }
 
-// By hand, since a derive of it passes over no ghost field.
+// By hand, since a derive for a generic struct passes over no ghost field.
 impl<T: Copy, const N: usize> Clone for Bounded<T, N> {
     ghost is_clone = { λ x y. y ≡ x };
 

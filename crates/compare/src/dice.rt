@@ -35,6 +35,7 @@ impl Dice {
 
     /// Brings the items into an order that is drawn.
     pub fn shuffle<T>(&mut self, items: &mut [T]) {
+        // By place, since two places of one slice are exchanged.
         for i in 1..items.len() {
             let j = self.below(i + 1);
             items.swap(i, j);

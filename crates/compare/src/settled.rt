@@ -6,14 +6,17 @@ use radio::CoinRadio;
 use rig::Rig;
 use std::alloc::{AllocError, Global};
 
-// The decided nodes by their turns.
+// The decided nodes by their turns. Where a turn is skipped or comes twice, a place holds another node.
 fn order_of(alloc: Global, rig: &Rig, count: u8) -> Result<Vec<u16>, AllocError> {
-    let mut decided: Vec<(u8, u8)> = (0..count)
-        .filter_map(|k| rig.turn(k).ok().map(|turn| (turn, k)))
-        .filter(|(turn, _)| *turn >= 1)
-        .collect(alloc)?;
-    decided.sort_unstable();
-    decided.iter().map(|(_, k)| u16::from(*k)).collect(alloc)
+    let mut order = [0u16; 64];
+    let mut decided = 0usize;
+    for k in 0..count {
+        if let Ok(turn @ 1..=64) = rig.turn(k) {
+            order[usize::from(turn) - 1] = u16::from(k);
+            decided = decided.saturating_add(1);
+        }
+    }
+    Vec::from_slice(alloc, &order[..decided.min(64)])
 }
 
 // A run of draws, deliveries and nudges on a bench.

@@ -22,6 +22,7 @@ fn settle<R: Radio>(rig: &mut Rig, radio: &mut R, a: u8) -> u32
     ensures settling { Settling R.ways rig.old.map a rig.old.nodes rig.new.nodes (R.state radio.old) (R.state radio.new) result }
 {
     let _ = rig.draw(a, 1, radio);
+    // Counted by hand, here and below: of what a chain's closure changes of the rig nothing is known.
     let mut came = 0;
     while !matches!(rig.deliver(radio), Ok(None)) {
         came += 1;

@@ -2,8 +2,8 @@
 ghost use Rattle.std.specs.Prelude.{◌≡◌};
 ghost use Rattle.facts.specs.Examples.{ChecksOfThree, LinksOfFive, PlanOfFour};
 
-use benches::path;
 use crate::outcomes::{Checks, Links, Plan};
+use benches::path;
 use radio::step;
 use refusal::Refusal;
 use rules::{LinkRule, NodeRule};

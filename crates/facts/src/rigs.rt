@@ -7,8 +7,8 @@ ghost use Rattle.rig.specs.Steps.{asking};
 ghost use Rattle.facts.specs.Examples.{BothRequest, LateGrant, LoneNode, LotteryOfThree, lottery};
 ghost use Rattle.benches.specs.Paths.{path as path_of};
 
-use benches::path;
 use crate::outcomes::{Both, Draws, Late, Lone};
+use benches::path;
 use marks::Marks;
 use radio::{Kind, Message, RackQueue, Radio};
 use refusal::Refusal;

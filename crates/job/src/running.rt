@@ -61,6 +61,7 @@ fn copy(text: &Text, buffer: &mut [u8])
 pub fn run(job: &[u8], buffer: &mut [u8]) -> Result<usize, Refusal>
     ensures { Ran job.now buffer.old buffer.new result }
 {
+    // The buffer is the caller's, and the answer how much of it is filled, as with `Read::read`: no heap.
     if buffer.len() < Text::SPACE {
         return Err(Refusal::Short);
     }

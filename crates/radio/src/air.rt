@@ -16,6 +16,7 @@ pub(crate) type Air = Bounded<Message, SPACE>;
 pub(crate) fn empty() -> Air
     ensures { waiting result ≡ [] }
 {
+    // No `Kind`: it fills the places in which nothing waits.
     let blank = Message {
         kind: 0,
         sender: 0,

@@ -19,8 +19,8 @@ pub enum Phase {
 pub struct Node {
     /// What it is doing.
     pub phase: Phase,
-    /// The slot it decided for, or 0. No `Option`, nor for turn and round beside it: the rules tell, send
-    /// and tabulate a slot as a number that is 0 until the node decides.
+    /// The slot it decided for, or 0. No `Option`, nor round `turn` and `dated`: the rules tell, send and
+    /// tabulate a slot as a number that is 0 until the node decides.
     pub slot: u8,
     /// Its place in the order of deciding, from 1, or 0.
     pub turn: u8,

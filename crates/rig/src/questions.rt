@@ -58,6 +58,7 @@ impl Rig {
     {
         let nodes = &self.nodes[..self.map.count() as usize];
         let mut table = [0; 64];
+        // By place: of what a walk over `iter_mut` writes nothing is known.
         for (k, node) in nodes.iter().enumerate() {
             table[k] = u16::from(node.slot);
         }

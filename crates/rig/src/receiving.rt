@@ -57,9 +57,7 @@ impl Rig {
     fn accept(&self, message: Message) -> Result<Delivery, Refusal>
         ensures { Accepts self.now.map message result }
     {
-        let Ok(kind) = Kind::try_from(message.kind) else {
-            return Err(Refusal::Foreign);
-        };
+        let kind = Kind::try_from(message.kind).map_err(|_| Refusal::Foreign)?;
         let no_slot = kind == Kind::Release && (message.slot == 0 || message.slot > 64);
         if no_slot || !self.map.linked(message.sender, message.receiver) {
             return Err(Refusal::Foreign);

@@ -26,6 +26,7 @@ fn decider(before: &Rig, after: &Rig) -> Option<u8>
     requires { before.now.map ≡ after.now.map }
     ensures { Decider (nodes after.now.map) before.now.nodes after.now.nodes result }
 {
+    // By place in both tables, since the place is the node that is answered.
     let old = before.slots();
     let new = after.slots();
     (0..after.map().count()).find(|&k| old[usize::from(k)] == 0 && new[usize::from(k)] != 0)

@@ -26,6 +26,7 @@ fn partner<C: ClashRule>(rule: &C, slots: &[u16], a: usize) -> Option<usize>
     if slot == 0 {
         return None;
     }
+    // Over the items, since the rule is asked for each by its number.
     (a + 1..slots.len()).find(|b| slots[*b] == slot && rule.clashes(a, *b))
 }
 

@@ -1,5 +1,5 @@
 //! Giving slots to the items of an order, one by one.
-ghost use Rattle.std.specs.Prelude.{◌≡◌, ℕ, ◌<◌, ◌≤◌, length, Decides, slice_index};
+ghost use Rattle.std.specs.Prelude.{◌≡◌, ◌≤◌, length};
 ghost use Rattle.schedule.specs.Order.{Planned, Sound, entries};
 ghost use Rattle.schedule.specs.Rand.{holds, least};
 
@@ -12,6 +12,7 @@ use refusal::Refusal;
 fn held<C: ClashRule>(rule: &C, slots: &[u16], a: usize, slot: u16) -> bool
     ensures { result ≡ holds (C.clash rule.now) (length slots.now) (entries slots.now) a slot }
 {
+    // Over the items, since the rule is asked for each by its number.
     (0..slots.len()).any(|b| slots[b] == slot && rule.clashes(a, b))
 }
 
