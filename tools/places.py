@@ -37,16 +37,16 @@ def twins(files):
     for place, line in lines(files, r'\bfn \w+'):
         names[re.search(r'\bfn (\w+)', line).group(1)].append(place)
     return [(place, f'fn {name}') for name, places in sorted(names.items()) for place in places[1:]
-            if name not in ('new', 'main') or name == 'main']
+            if name != 'new']
 
 
-def plain_types(files):
-    """Public enums and structs that do not derive Debug, PartialEq and Eq."""
+def plain_enums(files):
+    """Public enums that do not derive Debug, PartialEq and Eq."""
     found = []
     for path, text in files.items():
         above = ''
         for number, line in enumerate(text.splitlines(), 1):
-            if re.match(r'pub (enum|struct) \w+', line) and not {'Debug', 'PartialEq', 'Eq'} <= set(re.findall(r'\w+', above)):
+            if re.match(r'pub enum \w+', line) and not {'Debug', 'PartialEq', 'Eq'} <= set(re.findall(r'\w+', above)):
                 found.append((f'{path}:{number}', line))
             above = line if line.startswith('#[derive') else ''
     return found
@@ -66,7 +66,7 @@ POINTS = {
            r'|(deliver|receive)<.*Result<u8|(Delivered|deliveries: \[|answer: )\(?Result<u8|(Lottery|Phase)::\w+ => \(?\d'),
     '1 success as a bool': lambda f: lines(f, r'fn .*&mut .*-> bool'),
     '1 Ok, Err and Some taken apart by match': lambda f: lines(f, r'^\s*(Ok|Err|Some)\(.*\) =>'),
-    '1 enums and structs without Debug, PartialEq, Eq': plain_types,
+    '1 public enums without Debug, PartialEq, Eq': plain_enums,
     '2 functions of one name': twins,
     '3 loops over a range or with while': lambda f: lines(f, r'\bfor \w+ in [^{]*\.\.|\bwhile\b'),
     '4 equality, conversion and printing by hand': lambda f: lines(f, r'impl PartialEq|fn (number|word|push_number)\b'),

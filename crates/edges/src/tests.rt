@@ -103,7 +103,7 @@ fn contenders_of_small_maps(rt: HostRuntime) {
     assert_eq!(rt; path.contenders(4), Marks::empty());
 }
 
-// The loops stay, since they test that each link is accepted.
+// Pair by pair, since each answer is tested.
 #[test]
 fn a_full_map_of_64(rt: HostRuntime) {
     let mut map = map_of(64, &[]);

@@ -53,6 +53,7 @@ fn checks_on_a_path(rt: HostRuntime) {
 
 #[test]
 fn all_of_64_linked(rt: HostRuntime) {
+    // Pair by pair, since each answer is tested.
     let mut map = path(64);
     for a in 0..64 {
         for b in 0..a {
