@@ -5,7 +5,7 @@ use Rattle.map.specs.View.{net}
 use Rattle.map.specs.declared.Map.{Map}
 use Rattle.records.specs.Build.{FirstBad, Built}
 use Rattle.records.specs.Fields.{length_rule}
-use Rattle.records.proofs.Fronts.{opening, unopened, next_good, next_bad, all_good}
+use Rattle.records.proofs.Fronts.{opening, unopened, next_good, next_bad}
 use Rattle.records.proofs.building.build.Goals as goal
 
 refused : (job : List ℕ) (i : ℕ) (a : Result Map Refusal) → Ok tt ≡ length_rule (length job) → FirstBad job i → a ≡ Err (Record i) → Built job a
@@ -33,8 +33,3 @@ pub loop-record-preserved : goal.loop-record-preserved
 loop-record-preserved c =
     next_good c.loop-record.invariant c.in-Some.ensures.steps (net c.joined.new.map) (search rules)
     (rw c.in_ok-ok_or.ensures.ok_part at c.joined.ensures.after)
-
-pub returns : goal.returns
-returns c =
-    let a = all_good c.loop-record.invariant c.in_default.ensures.steps in
-    (sym c.in_ok-check_length.ensures, a.0, a.1)

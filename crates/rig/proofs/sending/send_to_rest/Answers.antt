@@ -1,12 +1,12 @@
 use Rattle.std.proofs.Common.{◌≡◌, ℕ, ◌+◌, Bool, true, false, not, ◌&&◌, length, sym, ap, ◌∙◌, arith}
 use Rattle.std.proofs.lemmas.Bool.{and_from}
 use Rattle.marks.specs.View.{marked}
-use Rattle.map.specs.View.{linked, nodes}
+use Rattle.map.specs.View.{linked}
 use Rattle.radio.specs.Ways.{puts}
 use Rattle.rig.proofs.Neighbours.{lacked}
 use Rattle.rig.specs.Board.{each}
 use Rattle.rig.specs.Steps.{addressed, lacks}
-use Rattle.rig.proofs.Rows.{each_none, each_sent, each_skipped, each_all, each-length, each_length_none, each_most}
+use Rattle.rig.proofs.Rows.{each_none, each_sent, each_skipped, each-length, each_length_none, each_most}
 use Rattle.rig.proofs.sending.send_to_rest.Goals as goal
 use Rattle.rig.proofs.sending.send_to_rest.Goals.{then-linked+then-not-has, else-linked, else-linked-via-then-linked+else-not-has, else-linked-via-else-linked}
 
@@ -47,15 +47,3 @@ loop-receiver-preserved g c =
             (ap r.state w.radio-is ∙ skipped e, w.sent-is ∙ same e)
       ]
     ]
-
-pub returns : goal.returns
-returns g c =
-    let r = g.R.Radio in
-    let m = c.args.map.now in
-    let x = c.args.message in
-    let p = lacks m c.args.but x.sender in
-    let e : c.loop-receiver.receiver ≡ nodes m = omega (arith, c.count-receiver-end.ensures) in
-    record {
-      radio = each_all r.ways (r.state c.args.radio.now) p (addressed x) (r.state c.loop-receiver.radio) c.loop-receiver.receiver (nodes m) c.loop-receiver.invariant.0 e;
-      value = c.loop-receiver.invariant.1 ∙ ap (λ (n : ℕ). length (each p (addressed x) n)) e;
-    }

@@ -1,11 +1,6 @@
 use Rattle.std.proofs.Common.{rules, refl}
-use Rattle.records.proofs.Fronts.{no_record}
-use Rattle.script.specs.Script.{good}
 use Rattle.script.proofs.Drafts.{first_good, first_bad, next_good, next_bad, all_good}
 use Rattle.script.proofs.reading.judged.Goals as goal
-
-pub returns-in_err-first : goal.returns-in_err-first
-returns-in_err-first c = rw c.from_residual.ensures (no_record (good c.args.reader.now.job.now) refl refl c.requires c.in_err-first.ensures.steps)
 
 pub returns-in_err-map : goal.returns-in_err-map
 returns-in_err-map c = rw c.from_residual-in_err-map.ensures (first_bad refl c.in_ok-first.ensures.steps c.requires c.in_err-map.ensures)

@@ -1,12 +1,6 @@
-use Rattle.std.proofs.Common.{sym, arith}
-use Rattle.job.proofs.Turns.{turned_none, turned_more, turned_off, turned_all}
+use Rattle.std.proofs.Common.{sym}
+use Rattle.job.proofs.Turns.{turned_more, turned_off, turned_all}
 use Rattle.job.proofs.playing.Play.deliver.Goals as goal
-
-pub loop-turn-init : goal.loop-turn-init
-loop-turn-init g c = turned_none _ _ _ _
-
-pub call-answer-requires : goal.call-answer-requires
-call-answer-requires g c = let t = c.loop-turn.invariant in omega arith
 
 pub loop-turn-preserved : goal.loop-turn-preserved
 loop-turn-preserved g c = turned_more _ _ _ _ _ _ _ _ _ _ c.loop-turn.invariant c.loop-turn-test.true c.call-answer.ensures.went c.call-answer.ensures.value (sym c.if-is_nothing.ensures)
