@@ -3,12 +3,15 @@
 //! A mark stands for a node, or for a slot: mark `s - 1` for slot `s`.
 #![tactic(auto)]
 
-ghost use Rattle.std.specs.Prelude.{◌≡◌, ℕ, true, false, not, ◌&&◌, ◌||◌, Decides, ◌==◌, nat_lt};
-ghost use Rattle.marks.specs.Sets.{FirstMissing, added, joined, none, removed};
+ghost use Rattle.std.specs.Prelude.{◌≡◌, ℕ, true, false, not, ◌&&◌, ◌||◌, Decides, ◌==◌, nat_eq, nat_lt};
+ghost use Rattle.marks.specs.Sets.{FirstMissing, Same, added, joined, none, removed};
 ghost use Rattle.marks.specs.View.{marked, size};
+ghost use Rattle.std.specs.Ordering.{on};
+ghost use Rattle.std.specs.Cmp.Rules.{comparing};
+ghost use Rattle.std.proofs.Common.{rules};
 
 /// A set of marks. Two sets with the same marks are equal.
-#[derive(Clone, Copy, Debug, PartialEq, Eq)]
+#[derive(Clone, Copy, Debug, Eq)]
 pub struct Marks {
     bits: u64,
 }
@@ -98,5 +101,20 @@ impl Marks {
         ensures { FirstMissing self result }
     {
         (0..Marks::LIMIT).find(|i| !self.has(*i))
+    }
+}
+
+/// Equal sets are those with the same marks.
+// By hand, since a derived `==` has no clause that says so.
+impl PartialEq for Marks {
+    ghost eq = { on (λ v. v.bits) nat_eq };
+
+    ghost laws = { Prim.search (comparing, rules) };
+
+    fn eq(&self, other: &Marks) -> bool
+        ensures eq { result ≡ on (λ v. v.bits) nat_eq self.now other.now }
+        ensures same { Same self.now other.now result }
+    {
+        self.bits == other.bits
     }
 }

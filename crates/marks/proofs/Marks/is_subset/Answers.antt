@@ -1,8 +1,7 @@
-use Rattle.std.proofs.Common.{◌≡◌, Bool, true, false, ◌||◌, refl, sym, ap, ◌∙◌, arith}
+use Rattle.std.proofs.Common.{◌≡◌, Bool, true, false, ◌||◌, refl, sym, ap, ◌∙◌}
 use Rattle.std.proofs.lemmas.Bool.{or_left}
-use Rattle.std.proofs.lemmas.Bool.Decides.{Decides-at, Decides-like}
+use Rattle.std.proofs.lemmas.Bool.Decides.{Decides-like}
 use Rattle.marks.specs.View.{marked}
-use Rattle.marks.specs.Equal.{eq_tells_same}
 use Rattle.marks.specs.declared.Marks.{Marks}
 use Rattle.marks.proofs.Marks.is_subset.Goals as goal
 
@@ -16,7 +15,6 @@ returns c =
     let b = c.args.other in
     let u = c.union.result in
     let all = c.union.ensures.marks in
-    let same = eq_tells_same u b (omega arith) (omega arith) in
-    Decides-at c.eq.result _ c.eq.ensures
-    (Decides-like _ (λ e j t. sym (ap (λ (m : Marks). marked m j) e) ∙ all j ∙ or_left (marked a j) (marked b j) t)
-    (λ f. same.value.0 (same.marks.1 (λ j _. all j ∙ added_none (marked a j) (marked b j) (f j)))) same.value)
+    let same = c.eq.ensures.same in
+    Decides-like _ (λ e j t. sym (ap (λ (m : Marks). marked m j) e) ∙ all j ∙ or_left (marked a j) (marked b j) t)
+    (λ f. same.value.0 (same.marks.1 (λ j _. all j ∙ added_none (marked a j) (marked b j) (f j)))) same.value
