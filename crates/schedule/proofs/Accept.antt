@@ -1,5 +1,5 @@
 -- What the checker accepts: a table in which no item shares with a later one, and RAND's own.
-use Rattle.std.proofs.Common.{◌≡◌, ℕ, zero, suc, ◌<◌, ◌≤◌, Bool, false, ◌⊎◌, List, length, get_or, Ok, Err, Result, sym, ap, ◌∙◌, subst, inl, inr, arith}
+use Rattle.std.proofs.Common.{◌≡◌, ℕ, zero, suc, ◌<◌, ◌≤◌, Bool, false, ◌⊎◌, List, length, get_or, take, Ok, Err, Result, sym, ap, ◌∙◌, subst, inl, inr, arith, get_or-take}
 use Rattle.std.proofs.lemmas.Bool.{both_ways, cases_order, cases_lt}
 use Rattle.marks.specs.Below.{max_below}
 use Rattle.marks.proofs.Below.{max_above, max_le}
@@ -31,6 +31,26 @@ clear_alone clash n swap apart slots m e alone x y lx ly s = go (cases_order x y
 
 pub largest_same : (m n : ℕ) (slots : List ℕ) (v : ℕ) → m ≡ n → Largest m slots v → Largest n slots v
 largest_same m n slots v e l = subst (λ (k : ℕ). Largest k slots v) e l
+
+-- what holds of a table's first entries holds of the table
+pub clear_part : (clash : ℕ → ℕ → Bool) (n m : ℕ) (slots : List ℕ) → n ≤ m → Clear clash n (take m slots) → Clear clash n slots
+clear_part clash n m slots l clear x y lx ly s =
+    clear x y lx ly
+    (record {
+      placed = subst (λ (v : ℕ). 0 < v) (sym (get_or-take m slots x 0 (omega arith))) s.placed;
+      same = get_or-take m slots y 0 (omega arith) ∙ s.same ∙ sym (get_or-take m slots x 0 (omega arith));
+      clashing = s.clashing;
+    })
+
+pub largest_part : (n m : ℕ) (slots : List ℕ) (v : ℕ) → n ≤ m → Largest n (take m slots) v → Largest n slots v
+largest_part n m slots v l h = record {
+  above = λ k q. let e = get_or-take m slots k 0 (omega arith) in let a = h.above k q in omega arith;
+  there = go h.there;
+}
+  where
+    go : (v ≡ 0) ⊎ ((k : ℕ) × (k < n) × (get_or (take m slots) k 0 ≡ v)) → (v ≡ 0) ⊎ ((k : ℕ) × (k < n) × (get_or slots k 0 ≡ v))
+    go (inl e) = inl e
+    go (inr (k, q, e)) = inr (k, q, sym (get_or-take m slots k 0 (omega arith)) ∙ e)
 
 -- every table has a largest slot
 some_largest : (n : ℕ) (slots : List ℕ) → (v : ℕ) × Largest n slots v

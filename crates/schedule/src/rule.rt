@@ -18,6 +18,9 @@ pub trait ClashRule {
 
     ghost clash: { Self → ℕ → ℕ → Bool };
 
+    // Above the methods, so that clauses may cite it.
+    ghost laws: { Laws items clash most };
+
     /// `MOST`, where a proof has to know it.
     fn limit() -> usize
         ensures { result ≡ most };
@@ -29,8 +32,6 @@ pub trait ClashRule {
     /// Whether items `a` and `b` clash.
     fn clashes(&self, a: usize, b: usize) -> bool
         ensures { result ≡ clash self.now a b };
-
-    ghost laws: { Laws items clash most };
 }
 
 // The number of items, which the rule's limit bounds.
