@@ -1,5 +1,5 @@
 //! The lines of a report.
-ghost use Rattle.std.specs.Prelude.{◌≡◌, ◌<◌, ◌++◌, slice_index};
+ghost use Rattle.std.specs.Prelude.{◌≡◌, ◌++◌};
 ghost use Rattle.map.specs.View.{nodes};
 ghost use Rattle.report.specs.Overview.{columns, contending_pairs, rows, sizes, totals, verdict_text};
 ghost use Rattle.schedule.specs.Order.{entries};
@@ -8,7 +8,6 @@ ghost use Rattle.text.specs.Written.{clip, written};
 use map::Map;
 use refusal::Refusal;
 use schedule::Verdict;
-use std::array;
 use text::Text;
 
 // The number of pairs that contend, each counted once: each is seen from both of its ends. `Map::links`
@@ -35,14 +34,9 @@ fn columns(map: &Map, n: u8, slot: u16) -> [usize; 4]
 pub(crate) fn push_rows(text: &mut Text, map: &Map, slots: &[u16; 64])
     ensures { written text.new ≡ clip (written text.old ++ rows map.now (entries slots.now) (nodes map.now)) }
 {
-    // A cast: there are 64 places, and `u8::try_from` would bring an error that never comes.
-    let rows: [[usize; 4]; 64] = array::from_fn(
-        |n|
-            requires { n < 64 }
-            ensures { result ≡ columns map.entry.now n (slice_index slots.entry.now n) }
-        { columns(map, n as u8, slots[n]) },
-    );
-    text.push_rows(&rows[..usize::from(map.count())]);
+    for n in 0..map.count() {
+        text.push_row(&columns(map, n, slots[usize::from(n)]));
+    }
 }
 
 /// Writes what the checker says, each word and number after one space: the largest slot and

@@ -45,9 +45,14 @@ impl Text {
     pub fn push_number(&mut self, n: usize)
         ensures { written self.new ≡ clip (written self.old ++ decimal n) }
     {
-        // Not by `write!`: it may fail, and promises its bytes only where it doesn't.
-        let mut digits = Buffer::new();
-        self.push_str(digits.format(n));
+        // One digit by hand: `itoa` takes longer for it. The cast loses nothing.
+        if n < 10 {
+            self.push(b'0' + n as u8);
+        } else {
+            // Not by `write!`: it may fail, and promises its bytes only where it doesn't.
+            let mut digits = Buffer::new();
+            self.push_str(digits.format(n));
+        }
     }
 
     /// Writes each number after one space.
