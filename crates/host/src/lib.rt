@@ -1,7 +1,7 @@
 //! The checker as a host in C calls it.
 #![tactic(auto)]
 
-ghost use Rattle.std.specs.Prelude.{◌≡◌, ℕ, ◌<◌, length, slice_index};
+ghost use Rattle.std.specs.Prelude.{◌≡◌, ℕ, ◌<◌, ◌≤◌, length, slice_index};
 ghost use Rattle.map.specs.View.{contend, nodes};
 ghost use Rattle.schedule.specs.Sharing.{Checked};
 ghost use Rattle.host.specs.Answer.{Answered, folded};
@@ -11,17 +11,22 @@ use records::build;
 use refusal::Refusal;
 use rules::NodeRule;
 use schedule::{ClashRule, Verdict, check};
-use std::array;
 
 /// What is added to a refusal's number.
 pub const REFUSED: u32 = 65_536;
 
 // The slots, as wide as the checker reads them, with 0 past their end.
 fn widened(slots: &[u8]) -> [u16; 64]
+    requires { length slots.now ≤ 64 }
     ensures len { length result ≡ 64 }
     ensures same { (k : ℕ) → k < 64 → slice_index result k ≡ slice_index slots.now k }
 {
-    array::from_fn(|i| u16::from(slots.get(i).copied().unwrap_or(0)))
+    let mut wide = [0; 64];
+    // By place: of what a walk over `iter_mut` writes nothing is known.
+    for (i, slot) in slots.iter().enumerate() {
+        wide[i] = u16::from(*slot);
+    }
+    wide
 }
 
 fn judge(map: &Map, slots: &[u8]) -> Result<Verdict, Refusal>
