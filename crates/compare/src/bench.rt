@@ -3,11 +3,12 @@ use crate::dice::Dice;
 use crate::grid::Grid;
 use map::Map;
 
-/// A map, and the same links in a grid.
+/// A map, and the same links in a grid, with the count of nodes that was drawn.
 #[derive(Drop)]
 pub struct Bench {
     pub map: Map,
     pub links: Grid,
+    pub count: u8,
 }
 
 impl Bench {
@@ -23,10 +24,6 @@ impl Bench {
                 links.join(usize::from(a), usize::from(b));
             }
         }
-        Bench { map, links }
-    }
-
-    pub fn count(&self) -> u8 {
-        self.map.count()
+        Bench { map, links, count }
     }
 }

@@ -1,8 +1,9 @@
 //! Numbers drawn from a generator, so that a comparison can be had again.
 ghost use Rattle.std.specs.Prelude.{◌-◌, ◌≤◌};
 
+use bounded::Bounded;
 use radio::step;
-use std::alloc::{AllocError, Global};
+use std::array;
 
 #[derive(Drop)]
 pub struct Dice {
@@ -42,11 +43,15 @@ impl Dice {
         }
     }
 
-    /// Some of the numbers below `count`, or none, or all, in an order that is drawn.
-    pub fn order(&mut self, alloc: Global, count: usize) -> Result<Vec<u16>, AllocError> {
-        let mut items: Vec<u16> = (0u16..).take(count).collect(alloc)?;
-        self.shuffle(&mut items);
-        items.truncate(self.below(count.saturating_add(1)));
-        Ok(items)
+    /// Some of the numbers below `count` and below 64, or none, or all, in an order that is drawn.
+    pub fn order(&mut self, count: usize) -> Bounded<u16, 64> {
+        let count = count.min(64);
+        // A cast: `u16::try_from` would bring an error that never comes.
+        let mut items: [u16; 64] = array::from_fn(|i| i as u16);
+        self.shuffle(&mut items[..count]);
+        let drawn = self.below(count + 1);
+        let mut order = Bounded::new(0);
+        order.extend_from_slice(&items[..drawn]);
+        order
     }
 }

@@ -24,15 +24,14 @@ fn show(rt: &impl Print, name: &str, score: Score) -> io::Result<Score> {
 }
 
 fn main(rt: HostRuntime) -> anyhow::Result<()> {
-    let alloc = rt.alloc();
     let mut all = Score::default();
     all += show(&rt, "nodes of a map", examples::openings())?;
     all += show(&rt, "rounds of a draw", examples::rounds())?;
     all += show(&rt, "the listed job", jobs::listed())?;
-    all += show(&rt, "planner, node rule", planners::nodes(alloc, 5000)?)?;
-    all += show(&rt, "planner, link rule", planners::links(alloc, 3000)?)?;
-    all += show(&rt, "drive and planner", drives::drives(alloc, 500)?)?;
-    all += show(&rt, "runs over the coin radio", settled::runs(alloc, 500)?)?;
+    all += show(&rt, "planner, node rule", planners::nodes(5000))?;
+    all += show(&rt, "planner, link rule", planners::links(3000))?;
+    all += show(&rt, "drive and planner", drives::drives(500))?;
+    all += show(&rt, "runs over the coin radio", settled::runs(500))?;
     ensure!(all.all_agreed(), "some cases differed");
     Ok(())
 }
