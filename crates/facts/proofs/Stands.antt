@@ -34,37 +34,48 @@ over h e = record { map = h.map; nodes = h.nodes; radio = e }
 
 -- the call whose outcome is written out as a, from there
 module _ {n : Net} {b : Board} {s q : List Message} {rig : Rig} (h : Stands n b s rig q) where
+  pub draw_is : (k v : ℕ) (a : After Lottery) → drawn_of rig.map n b k v ≡ a → drawn rig.map rig.nodes k v ≡ a
+  draw_is k v a e = ap (λ (x : Board). drawn rig.map x k v) h.nodes ∙ drawn-of rig.map n h.map b k v ∙ e
+
+  pub draw_answers : (k v : ℕ) (a : After Lottery) → drawn_of rig.map n b k v ≡ a → (r : Result Lottery Refusal) → r ≡ (drawn rig.map rig.nodes k v).answer → r ≡ a.answer
+  draw_answers k v a e r is = is ∙ ap (λ (x : After Lottery). x.answer) (draw_is k v a e)
+
   pub drew : {rig' : Rig} {q' : List Message} {r : Result Lottery Refusal} {a : After Lottery} (k v : ℕ) → drawn_of rig.map n b k v ≡ a
       → r ≡ (drawn rig.map rig.nodes k v).answer → Made queue_ways rig rig' q q' (drawn rig.map rig.nodes k v).board (drawn rig.map rig.nodes k v).sent
       → Did n a (puts queue_ways s a.sent) r rig' q'
-  drew {a = a} k v e value made =
-      let is : drawn rig.map rig.nodes k v ≡ a = ap (λ (x : Board). drawn rig.map x k v) h.nodes ∙ drawn-of rig.map n h.map b k v ∙ e in
+  drew {r = r} {a = a} k v e value made =
+      let is = draw_is k v a e in
       record {
         stands = record {
           map = ap net made.map ∙ h.map;
           nodes = made.nodes ∙ ap (λ (x : After Lottery). x.board) is;
           radio = made.radio ∙ ap₂ (λ (x : List Message) (y : After Lottery). puts queue_ways x y.sent) h.radio is;
         };
-        answer = value ∙ ap (λ (x : After Lottery). x.answer) is;
+        answer = draw_answers k v a e r value;
       }
+
+  pub delivery_is : (a : After (Option Kind)) → delivered_of rig.map n b (queue_ways.taken s) ≡ a → delivered rig.map rig.nodes (queue_ways.taken q) ≡ a
+  delivery_is a e =
+      ap₂ (λ (x : Board) (y : List Message). delivered rig.map x (queue_ways.taken y)) h.nodes h.radio
+      ∙ delivered-of rig.map n h.map b (queue_ways.taken s) ∙ e
+
+  pub delivery_answers : (a : After (Option Kind)) → delivered_of rig.map n b (queue_ways.taken s) ≡ a → (r : Result (Option Kind) Refusal)
+      → r ≡ (delivered rig.map rig.nodes (queue_ways.taken q)).answer → r ≡ a.answer
+  delivery_answers a e r is = is ∙ ap (λ (x : After (Option Kind)). x.answer) (delivery_is a e)
 
   pub came : {rig' : Rig} {q' : List Message} {r : Result (Option Kind) Refusal} {a : After (Option Kind)} → delivered_of rig.map n b (queue_ways.taken s) ≡ a
       → r ≡ (delivered rig.map rig.nodes (queue_ways.taken q)).answer
       → Made queue_ways rig rig' (queue_ways.after_take q) q' (delivered rig.map rig.nodes (queue_ways.taken q)).board (delivered rig.map rig.nodes (queue_ways.taken q)).sent
       → Did n a (puts queue_ways (queue_ways.after_take s) a.sent) r rig' q'
-  came {a = a} e value made =
-      let
-      is : delivered rig.map rig.nodes (queue_ways.taken q) ≡ a =
-      ap₂ (λ (x : Board) (y : List Message). delivered rig.map x (queue_ways.taken y)) h.nodes h.radio
-      ∙ delivered-of rig.map n h.map b (queue_ways.taken s) ∙ e
-      in
+  came {r = r} {a = a} e value made =
+      let is = delivery_is a e in
       record {
         stands = record {
           map = ap net made.map ∙ h.map;
           nodes = made.nodes ∙ ap (λ (x : After (Option Kind)). x.board) is;
           radio = made.radio ∙ ap₂ (λ (x : List Message) (y : After (Option Kind)). puts queue_ways (queue_ways.after_take x) y.sent) h.radio is;
         };
-        answer = value ∙ ap (λ (x : After (Option Kind)). x.answer) is;
+        answer = delivery_answers a e r value;
       }
 
   -- what is told of a node below the size

@@ -1,5 +1,5 @@
 -- The end of a job: what its nodes can hold, its largest slot, and what is answered.
-use Rattle.std.proofs.Common.{◌≡◌, ℕ, zero, suc, ◌<◌, ◌≤◌, max, fold, List, [], ◌∷◌, length, get_or, Some, None, Ok, Err, Option, Result, MatchResult, sym, refl, ap, ◌∙◌, ap₂, inl, inr, ⊎_elim, take_all, arith}
+use Rattle.std.proofs.Common.{◌≡◌, ℕ, zero, suc, ◌<◌, ◌≤◌, max, fold, List, [], ◌∷◌, length, get_or, Some, None, Ok, Err, Option, Result, MatchResult, sym, refl, ap, ◌∙◌, subst, ap₂, inl, inr, ⊎_elim, take_all, arith}
 use Rattle.std.proofs.lemmas.Bool.{cases_lt}
 use Rattle.std.specs.List.{reduce}
 use Rattle.std.specs.Option.{unwrap_or}
@@ -18,8 +18,10 @@ use Rattle.radio.specs.Coin.{CoinState, coin_ways, seeded}
 use Rattle.radio.specs.Queue.{queue_ways}
 use Rattle.radio.specs.Ways.{Ways, AirRule}
 use Rattle.radio.specs.declared.message.Message.{Message}
+use Rattle.rig.specs.Board.{Board}
 use Rattle.law.proofs.Law.{holds, turn_few}
 use Rattle.script.specs.Script.{good, described, seed_of, events}
+use Rattle.script.specs.declared.Event.{Event}
 use Rattle.job.specs.Play.{Stand, fresh, plays, PlaysOut}
 use Rattle.job.specs.Listing.{Lists, Printed, coin, listing, listed_over, listed, PlaysOutOver, JobRuns}
 use Rattle.job.specs.declared.playing.Play.{Play}
@@ -55,6 +57,13 @@ pub printed : (job : List ℕ) (r : Result Text Refusal) (text : Text) → Lists
 printed job (Ok t) text (m, runs, is) same = inl (m, runs, ap written same ∙ is)
 printed job (Err e) text why is = inr (e, why, is ∙ take_all 1024 (refused_line e) (refused_short e (unfit_index (good job) job e why)))
 
+-- in the end of a run no number of a node is too long for a listing
+pub short_end : {S : Type 0} (w : Ways S) → AirRule w → (m : Map) (es : List Event) (t : Stand S) → PlaysOut w m es t → (m' : Map) (b : Board) → m' ≡ m → b ≡ t.nodes → (k : ℕ) → k < nodes m' → Short b k
+short_end w rule m es t s m' b em eb k l =
+    let i = holds w rule m s.run.empty s.run.made in
+    let inside = subst (λ (x : Map). k < nodes x) em l in
+    subst (λ (x : Board). Short x k) (sym eb) (record { slot = i.fine.nodes.small k; turn = turn_few w rule m s.order t.nodes t.radio i k inside; round = i.fine.nodes.few k })
+
 -- the end of a job, whose listing has space in a text
 
 module _ {S : Type 0} (w : Ways S) (rule : AirRule w) (m : Map) (job : List ℕ) (s₀ : S) (empty : w.air s₀ ≡ []) where
@@ -65,9 +74,7 @@ module _ {S : Type 0} (w : Ways S) (rule : AirRule w) (m : Map) (job : List ℕ)
   plays_out = settles w m s₀ rule empty (events job)
 
   end_short : (k : ℕ) → k < nodes m → Short end.nodes k
-  end_short k l =
-      let i = holds w rule m plays_out.run.empty plays_out.run.made in
-      record { slot = i.fine.nodes.small k; turn = turn_few w rule m plays_out.order end.nodes end.radio i k l; round = i.fine.nodes.few k }
+  end_short k l = short_end w rule m (events job) end plays_out m end.nodes refl refl k l
 
   module _ (p : Play) (s : S) (map : p.rig.map ≡ m) (after : stand p s ≡ end) where
     pub lists : listing p.rig.map (shown p) ≡ listing m end
