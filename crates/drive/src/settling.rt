@@ -1,5 +1,5 @@
 //! Settling nodes one after the other, over any radio that is sure.
-ghost use Rattle.std.specs.Prelude.{◌≡◌, ◌<◌, []};
+ghost use Rattle.std.specs.Prelude.{◌≡◌, ◌<◌, [], None, Ok, Decides};
 ghost use Rattle.map.specs.View.{nodes};
 ghost use Rattle.rig.specs.Board.{new_board};
 ghost use Rattle.rig.specs.Calm.{at};
@@ -8,8 +8,16 @@ ghost use Rattle.law.specs.Law.{SlotLaw};
 ghost use Rattle.drive.specs.Settling.{Resting, Settled, Settling};
 ghost use Rattle.drive.specs.Sure.{Sure};
 
-use radio::Radio;
+use radio::{Kind, Radio};
+use refusal::Refusal;
 use rig::Rig;
+
+// Whether a delivery brought nothing.
+fn is_nothing(answer: Result<Option<Kind>, Refusal>) -> bool
+    ensures { Decides result (answer ≡ Ok None) }
+{
+    matches!(answer, Ok(None))
+}
 
 // Draws node `a` with 1, and then delivers until nothing comes; how many messages came. That the map
 // stays is a clause of its own, here and below: no type holds both rigs.
@@ -24,7 +32,7 @@ fn settle<R: Radio>(rig: &mut Rig, radio: &mut R, a: u8) -> u32
     let _ = rig.draw(a, 1, radio);
     // Counted by hand, here and below: of what a chain's closure changes of the rig nothing is known.
     let mut came = 0;
-    while !matches!(rig.deliver(radio), Ok(None)) {
+    while !is_nothing(rig.deliver(radio)) {
         came += 1;
     }
     came

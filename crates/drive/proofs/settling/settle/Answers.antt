@@ -1,5 +1,5 @@
-use Rattle.std.proofs.Common.{rules, ◌≡◌, ◌<◌, None, Ok, Err, sym, refl, ap, ◌∙◌, subst, arith}
-use Rattle.std.proofs.lemmas.Bool.{both_ways}
+use Rattle.std.proofs.Common.{◌<◌, sym, refl, ◌∙◌, subst, arith}
+use Rattle.std.proofs.lemmas.Bool.Decides.{not_from_Decides}
 use Rattle.map.specs.View.{nodes}
 use Rattle.map.specs.declared.Map.{Map}
 use Rattle.radio.specs.Ways.{AirRule}
@@ -9,7 +9,6 @@ use Rattle.drive.proofs.Episode.{Busy}
 use Rattle.drive.proofs.Going.{Going, drew, goes_first, on, off}
 use Rattle.drive.proofs.settling.settle.Given as given
 use Rattle.drive.proofs.settling.settle.Goals as goal
-use Rattle.drive.proofs.settling.settle.Goals.{in-Ok-None, in_default, in_default-2}
 
 rule : (g : given.Over) → AirRule g.R.Radio.ways
 rule g = let met = g.met.R.Radio in record { put_air = met.put_air; take_air = met.take_air; taken_air = met.taken_air }
@@ -36,7 +35,7 @@ loop-came-preserved g c =
     let made = c.deliver.ensures.made in (
       made.map ∙ c.loop-came.invariant.0,
       on r.ways (rule g) c.requires.sure _ c.args.a (subst (λ (m : Map). c.args.a < nodes m) (sym c.draw.ensures.made.map) c.requires.inside) _ _ _ _ _ c.loop-came.invariant.1 _ c.loop-came.invariant.0
-          c.deliver.result _ _ c.deliver.ensures.value made.nodes made.radio (λ e. elim c.match-matches.branch [ in-Ok-None w ↦ both_ways c.match-matches.matches c.if-not-matches.true w.matches-is | in_default w ↦ search (rules, e) | in_default-2 w ↦ absurd (let z : Err w.in_default.field-0 ≡ Ok None = sym w.in_default.is ∙ e in cc) ]),
+          c.deliver.result _ _ c.deliver.ensures.value made.nodes made.radio (not_from_Decides c.is_nothing.result c.is_nothing.ensures c.loop-came-test.true),
     )
 
 pub loop-came-smaller : goal.loop-came-smaller
@@ -59,5 +58,5 @@ returns g c =
     record {
       map = made.map ∙ c.loop-came.invariant.0 ∙ drawn.map;
       settling = off r.ways (rule g) c.requires.sure m a c.requires.inside _ _ _ _ _ going _ (c.loop-came.invariant.0 ∙ drawn.map)
-          c.deliver.result _ _ c.deliver.ensures.value made.nodes made.radio b s c.requires.resting.rests c.requires.undecided first (elim c.match-matches.branch [ in-Ok-None w ↦ w.in-Ok-None.is ∙ ap Ok w.in-Ok-None.field-0-is | in_default w ↦ absurd (both_ways c.match-matches.matches w.matches-is c.if-not-matches.false) | in_default-2 w ↦ absurd (both_ways c.match-matches.matches w.matches-is c.if-not-matches.false) ]);
+          c.deliver.result _ _ c.deliver.ensures.value made.nodes made.radio b s c.requires.resting.rests c.requires.undecided first (c.is_nothing.ensures.0 c.loop-came-test.false);
     }
