@@ -48,15 +48,9 @@ impl Map {
         ensures apart { (a : ℕ) → Contend self.now a a → ⊥ }
     {
         let near = self.neighbours(n);
-        // No `filter` before the fold: for a node with many neighbours that takes half as long again.
         (0..self.count)
-            .fold(near, |all, i| {
-                if near.has(i) {
-                    all.union(self.neighbours(i))
-                } else {
-                    all
-                }
-            })
+            .filter(|i| near.has(*i))
+            .fold(near, |all, i| all.union(self.neighbours(i)))
             .without(n)
     }
 

@@ -100,8 +100,3 @@ pub fold_of_filtered : {F H C : Type 0} {g : Mut F (Bor ℕ × Unit {0}) Bool} {
     → ((ys : List ℕ) (a : C) (x : ℕ) (b : C) (q : H) → J ys a → Called k h (a, (x, tt)) b q → J (ys ++ (x ∷ [])) b × (q ≡ h)) → J [] init → J (filter p (range_with_len 0 n)) r
 fold_of_filtered {g} {k} {s} {h} p n J init r ran e j is step first =
     fold_over (filter_steps nat_range_steps g) (λ x. x) k J h step s (filter p (range_with_len 0 n)) init r (YieldsList-from_filter g p (below n e) j is).runs first ran
-
--- `fold`, by what each step keeps of the numbers so far
-pub fold_over_range : {F C : Type 0} {g : Mut F (C × (ℕ × Unit {0})) C} {s : Range ℕ} {f : F} (n : ℕ) (J : List ℕ → C → Type 0) (init r : C) → FoldsItems nat_range_steps g s f init r → s ≡ record { start = 0; end = n }
-    → ((ys : List ℕ) (a : C) (x : ℕ) (b : C) (q : F) → J ys a → Called g f (a, (x, tt)) b q → J (ys ++ (x ∷ [])) b × (q ≡ f)) → J [] init → J (range_with_len 0 n) r
-fold_over_range {g} {s} {f} n J init r ran e step first = fold_over nat_range_steps (λ x. x) g J f step s (range_with_len 0 n) init r (below n e).runs first ran
